@@ -1,0 +1,12 @@
+pub mod Facts
+pub mod Holds
+pub mod Reading
+pub mod Guarantees
+pub mod Accepted
+pub mod Sets
+pub mod Members
+pub mod Runs
+pub mod Valid
+pub mod Words
+pub mod Kept
+pub mod Schedules

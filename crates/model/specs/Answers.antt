@@ -1,0 +1,23 @@
+-- What a call answers: what it was asked for, or a refusal with its number and, where document 01 has one, its place.
+use Prim.Native.Nat.{ℕ}
+use Rattle.model.specs.Numbers as No
+
+pub data Refusal : Type 0 where
+  plain : ℕ → Refusal  -- the number alone: 1, 2, 12 to 21
+  byte : ℕ → Refusal  -- 3, and the offset of the first bad byte
+  fault : ℕ → ℕ → ℕ → Refusal  -- 4 to 11, and the function and the block
+
+-- the number of a refusal
+unfoldable pub numberOf : Refusal → ℕ
+numberOf (Refusal.plain n) = n
+numberOf (Refusal.byte at) = No.form
+numberOf (Refusal.fault n f b) = n
+
+pub data Answer (A : Type 0) : Type 0 where
+  given : A → Answer A
+  refused : Refusal → Answer A
+
+-- with what is given go on; a refusal stays
+unfoldable pub with : {A B : Type 0} → Answer A → (A → Answer B) → Answer B
+with (Answer.given a) k = k a
+with (Answer.refused r) k = Answer.refused r

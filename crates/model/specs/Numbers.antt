@@ -1,0 +1,101 @@
+-- The numbers of document 01, each once, by name: what a call can refuse, and the rules of figure 3.
+-- Other files write them as No.stuck, No.goto.
+use Prim.Native.Nat.{ℕ}
+
+-- the table (1 to 3)
+abbrev pub size : ℕ
+size = 1
+
+abbrev pub version : ℕ
+version = 2
+
+abbrev pub form : ℕ
+form = 3
+
+-- the check (4 to 11)
+abbrev pub main : ℕ
+main = 4
+
+abbrev pub entry : ℕ
+entry = 5
+
+abbrev pub missing : ℕ
+missing = 6
+
+abbrev pub twice : ℕ
+twice = 7
+
+abbrev pub unbound : ℕ
+unbound = 8
+
+abbrev pub count : ℕ
+count = 9
+
+abbrev pub scope : ℕ
+scope = 10
+
+abbrev pub nesting : ℕ
+nesting = 11
+
+-- the pool (12, 13)
+abbrev pub words : ℕ
+words = 12
+
+abbrev pub pool : ℕ
+pool = 13
+
+-- a choice (14 to 21)
+abbrev pub kind : ℕ
+kind = 14
+
+abbrev pub thread : ℕ
+thread = 15
+
+abbrev pub ended : ℕ
+ended = 16
+
+abbrev pub waits : ℕ
+waits = 17
+
+abbrev pub frames : ℕ
+frames = 18
+
+abbrev pub stuck : ℕ
+stuck = 19
+
+abbrev pub promoted : ℕ
+promoted = 20
+
+abbrev pub threads : ℕ
+threads = 21
+
+-- the rules (1 to 10), in the order of document 01
+abbrev pub stmt : ℕ
+stmt = 1
+
+abbrev pub goto : ℕ
+goto = 2
+
+abbrev pub then : ℕ
+then = 3
+
+abbrev pub else : ℕ
+else = 4
+
+abbrev pub call : ℕ
+call = 5
+
+abbrev pub return : ℕ
+return = 6
+
+abbrev pub spork : ℕ
+spork = 7
+
+abbrev pub unpr : ℕ
+unpr = 8
+
+abbrev pub prom : ℕ
+prom = 9
+
+abbrev pub promote : ℕ
+promote = 10
