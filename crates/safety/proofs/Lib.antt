@@ -1,0 +1,12 @@
+pub mod Typing
+pub mod Owed
+pub mod Frames
+pub mod Acts
+pub mod Steps
+pub mod Promotions
+pub mod Pools
+pub mod Joins
+pub mod Words
+pub mod Schedules
+pub mod Theorem
+pub mod Prom

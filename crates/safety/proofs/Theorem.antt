@@ -1,0 +1,93 @@
+-- Demand 3, proved, and what follows from it.
+use Prim.Native.Nat.{ℕ}
+use mathlib.Core.Path.{_≡_, refl, sym, ap}
+use mathlib.Core.Logic.{_⊎_, inl, inr}
+use mathlib.Core.List.{List, []}
+use lib.IntN.{ℤ}
+use lib.ListN.{length}
+use Rattle.model.specs.Numbers as No
+use Rattle.model.specs.Answers.{Refusal, Answer, with}
+use Rattle.model.specs.Pool.{poolWords, wordsOf, begin, started}
+use Rattle.model.specs.Calls as Calls
+use Rattle.model.specs.Calls.{Lent, Called, lent, check, measured, starting, start}
+use Rattle.model.proofs.Facts.{eq-eqb}
+use Rattle.model.proofs.Accepted.{check-wf}
+use Rattle.model.proofs.Guarantees.{read-limits}
+use Rattle.model.proofs.Words.{started-pool}
+use Rattle.safety.specs.NeverJams.{Call, Answered, Joined, Returned, CanStep, OutOfFrames, Stands, finally, Safe, Demand3}
+use Rattle.safety.proofs.Typing.{Typed}
+use Rattle.safety.proofs.Frames.{begins}
+use Rattle.safety.proofs.Words.{Table, Good, good-lent, good-answered, good-joined, good-stands, good-waiting}
+use Rattle.safety.proofs.Schedules.{good-finally, calls-each}
+
+-- the table that the check accepts
+accepted : (s : List ℕ) → check s ≡ Answer.given tt → Table s
+accepted s h =
+    let r = check-wf s h in
+    record { program = r .0; reads = r .1; formed = r .2 }
+
+-- the start: one thread at main's entry
+starts : {s : List ℕ} (T : Table s) (ws : List ℤ) → length ws ≡ poolWords →
+    start s ws ≡ record { answer = Answer.given tt; after = wordsOf started }
+unfolding start starting with measured
+starts T ws n = rw (T .reads, eq-eqb (length ws) poolWords n)
+
+good-start : {s : List ℕ} (T : Table s) → Good T (wordsOf started)
+unfolding started
+good-start {s} T =
+    let W = T .formed in
+    let b = begins W 0 [] (W .first) (sym (W .starts)) in
+    let t : Typed (T .program) (W .main .signature .returns) (record { newest = begin 0 []; older = [] }) =
+    record { function = W .main; runs = b .runs; callers = refl }
+    in
+    record {
+      pool = started;
+      is = refl;
+      valid = started-pool (T .program) (read-limits s (T .program) (T .reads));
+      typed = (t, rw (b .owes) tt);
+    }
+
+module _ {s : List ℕ} (T : Table s) (ws : List ℤ) (n : length ws ≡ poolWords) where
+  good-started : Good T (start s ws .after)
+  good-started = rw (starts T ws n) (good-start T)
+
+  safe : (cs : List Call) → Safe s (start s ws .after) cs
+  safe cs =
+      record {
+        answered = calls-each T (Answered s) (λ _ g kind i. good-answered g kind i) cs good-started;
+        joined = calls-each T (Joined s) (λ _ g kind i. good-joined g kind i) cs good-started;
+        stands = good-stands (good-finally T cs good-started);
+      }
+
+-- no accepted table ever jams
+pub demand3 : Demand3
+demand3 s ws h n =
+    let T = accepted s h in
+    record { starts = ap (λ (c : Called (Unit {0})). c .answer) (starts T ws n); safe = safe T ws n }
+
+-- the words that calls leave after the start
+abbrev pub now : List ℕ → List ℤ → List Call → List ℤ
+now s ws cs = finally s (start s ws .after) cs
+
+-- what follows of them, for an accepted table
+module _ (s : List ℕ) (ws : List ℤ) (h : check s ≡ Answer.given tt) (n : length ws ≡ poolWords) (cs : List Call) where
+  good-now : Good (accepted s h) (now s ws cs)
+  good-now = good-finally (accepted s h) cs (good-started (accepted s h) ws n)
+
+  -- they are a pool of the table
+  pub always-pool : (l : Lent) × (lent s (now s ws cs) ≡ Answer.given l)
+  always-pool = (record { table = accepted s h .program; pool = good-now .pool }, good-lent good-now)
+
+  -- where no thread can step and none is out of frames, main has returned
+  pub still-returned : ¬ CanStep s (now s ws cs) → ¬ OutOfFrames s (now s ws cs) → Returned s (now s ws cs)
+  still-returned a b = go (good-stands good-now)
+    where
+      go : Stands s (now s ws cs) → Returned s (now s ws cs)
+      go (inl r) = r
+      go (inr (inl c)) = absurd (a c)
+      go (inr (inr o)) = absurd (b o)
+
+  -- where the step of a thread waits (17), some thread can step or is out of frames
+  pub waiting-moves : (i : ℕ) → Calls.choose s (now s ws cs) 0 i .answer ≡ Answer.refused (Refusal.plain No.waits) →
+      CanStep s (now s ws cs) ⊎ OutOfFrames s (now s ws cs)
+  waiting-moves i e = good-waiting good-now i e
