@@ -1,0 +1,5 @@
+pub mod Laws
+pub mod Rules
+pub mod Marks
+pub mod Placed
+pub mod Answered

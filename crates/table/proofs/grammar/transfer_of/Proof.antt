@@ -1,0 +1,25 @@
+-- `table::grammar::transfer_of`: by the kind.
+use Prim.Native.Nat.{_<_}
+use native.Mathlib.Omega.{arith}
+use borrow.Author.Needs.{needs}
+use Rattle.table.proofs.Rules.{transfers, other-skip}
+use Rattle.table.proofs.grammar.transfer_of.Statement.{statement}
+use Rattle.table.proofs.grammar.transfer_of.Tie as tie
+
+pub transfer-of-spec : {M : Type 1} → statement M
+transfer-of-spec =
+    tie.close
+    (tie.spec
+    (λ c κs. search needs)
+    (λ c κs. search needs)
+    (λ c κs. search needs)
+    (λ c κs. search needs)
+    (λ c κs. search needs)
+    (λ c κs. search needs)
+    (λ c. search transfers)
+    (λ c. search transfers)
+    (λ c. search transfers)
+    (λ c. search transfers)
+    (λ c. search transfers)
+    (λ c. search transfers)
+    (λ c. let h : 5 < c .before .before .args .kind = omega arith in other-skip _ _ _ h))

@@ -1,0 +1,3 @@
+pub mod Skips
+pub mod Marks
+pub mod Reading

@@ -1,0 +1,235 @@
+// The rules of document 01's table, each passed over at an offset: where it ends, or the place of the first bad byte.
+ghost use mathlib.Core.Path.{_≡_};
+ghost use lib.ListN.{getD};
+ghost use Rattle.model.specs.Read as Read;
+ghost use Rattle.table.specs.Skips.{skipOf, byteOf, operandsOf, transferOf};
+
+// A byte and the offset behind it, or the place of the first bad byte.
+pub enum Found {
+    Byte(usize, usize),
+    Wrong(usize),
+}
+
+// The offset behind what was passed over, or the place of the first bad byte.
+pub enum Skip {
+    At(usize),
+    Bad(usize),
+}
+
+// The byte at an offset; 0 past the end.
+pub fn get(s: &[u8], at: usize) -> usize
+    ensures { λ r. ⌜ r ≡ getD (now (s .entry)) at 0 ⌝ }
+{
+    if at < s.len() { s[at] as usize } else { 0 }
+}
+
+// A byte from lo to hi.
+pub fn byte(s: &[u8], at: usize, lo: usize, hi: usize) -> Found
+    ensures { λ r. ⌜ byteOf r ≡ Read.byte lo hi (now (s .entry)) at ⌝ }
+{
+    if s.len() <= at {
+        return Found::Wrong(s.len());
+    }
+    let b = s[at] as usize;
+    if b < lo {
+        return Found::Wrong(at);
+    }
+    if hi < b {
+        return Found::Wrong(at);
+    }
+    Found::Byte(b, at + 1)
+}
+
+// n bytes from 0 to hi.
+pub fn bytes(s: &[u8], at: usize, n: usize, hi: usize) -> Skip
+    ensures { λ r. ⌜ r ≡ skipOf (Read.many (Read.byte 0 hi) n (now (s .entry)) at) ⌝ }
+{
+    let mut left = n;
+    let mut k = at;
+    while 0 < left {
+        let next = match byte(s, k, 0, hi) {
+            Found::Byte(_, next) => next,
+            Found::Wrong(p) => return Skip::Bad(p),
+        };
+        k = next;
+        left -= 1;
+    }
+    Skip::At(k)
+}
+
+// A count from 0 to most, and that many bytes from 0 to hi.
+pub fn counted(s: &[u8], at: usize, most: usize, hi: usize) -> Skip
+    ensures { λ r. ⌜ r ≡ skipOf (Read.counted most (Read.byte 0 hi) (now (s .entry)) at) ⌝ }
+{
+    match byte(s, at, 0, most) {
+        Found::Byte(n, k) => bytes(s, k, n, hi),
+        Found::Wrong(p) => Skip::Bad(p),
+    }
+}
+
+// 0 and a value, or 1 and a temporary.
+pub fn atom(s: &[u8], at: usize) -> Skip
+    ensures { λ r. ⌜ r ≡ skipOf (Read.atom (now (s .entry)) at) ⌝ }
+{
+    match byte(s, at, 0, 1) {
+        Found::Byte(kind, k) => {
+            if kind == 0 {
+                bytes(s, k, 4, 255)
+            } else {
+                bytes(s, k, 1, 15)
+            }
+        }
+        Found::Wrong(p) => Skip::Bad(p),
+    }
+}
+
+pub fn atoms(s: &[u8], at: usize, n: usize) -> Skip
+    ensures { λ r. ⌜ r ≡ skipOf (Read.many Read.atom n (now (s .entry)) at) ⌝ }
+{
+    let mut left = n;
+    let mut k = at;
+    while 0 < left {
+        let next = match atom(s, k) {
+            Skip::At(next) => next,
+            Skip::Bad(p) => return Skip::Bad(p),
+        };
+        k = next;
+        left -= 1;
+    }
+    Skip::At(k)
+}
+
+// How many operands an expression of each kind has.
+const OPERANDS: [usize; 4] = [1, 1, 2, 2];
+
+pub fn operands(kind: usize) -> usize
+    ensures { λ r. ⌜ r ≡ operandsOf kind ⌝ }
+{
+    if kind < 4 { OPERANDS[kind] } else { 0 }
+}
+
+pub fn expression(s: &[u8], at: usize) -> Skip
+    ensures { λ r. ⌜ r ≡ skipOf (Read.expression (now (s .entry)) at) ⌝ }
+{
+    match byte(s, at, 0, 3) {
+        Found::Byte(kind, k) => atoms(s, k, operands(kind)),
+        Found::Wrong(p) => Skip::Bad(p),
+    }
+}
+
+pub fn statement(s: &[u8], at: usize) -> Skip
+    ensures { λ r. ⌜ r ≡ skipOf (Read.statement (now (s .entry)) at) ⌝ }
+{
+    match byte(s, at, 0, 15) {
+        Found::Byte(_, k) => expression(s, k),
+        Found::Wrong(p) => Skip::Bad(p),
+    }
+}
+
+pub fn statements(s: &[u8], at: usize, n: usize) -> Skip
+    ensures { λ r. ⌜ r ≡ skipOf (Read.many Read.statement n (now (s .entry)) at) ⌝ }
+{
+    let mut left = n;
+    let mut k = at;
+    while 0 < left {
+        let next = match statement(s, k) {
+            Skip::At(next) => next,
+            Skip::Bad(p) => return Skip::Bad(p),
+        };
+        k = next;
+        left -= 1;
+    }
+    Skip::At(k)
+}
+
+// A block's statements, behind their number.
+pub fn code(s: &[u8], at: usize) -> Skip
+    ensures { λ r. ⌜ r ≡ skipOf (Read.counted 32 Read.statement (now (s .entry)) at) ⌝ }
+{
+    match byte(s, at, 0, 32) {
+        Found::Byte(n, k) => statements(s, k, n),
+        Found::Wrong(p) => Skip::Bad(p),
+    }
+}
+
+// A spawn call: a function, and its arguments.
+pub fn spawn_call(s: &[u8], at: usize) -> Skip
+    ensures { λ r. ⌜ r ≡ skipOf (Read.spawnCall (now (s .entry)) at) ⌝ }
+{
+    match byte(s, at, 0, 255) {
+        Found::Byte(_, k) => counted(s, k, 8, 15),
+        Found::Wrong(p) => Skip::Bad(p),
+    }
+}
+
+// if: an expression and two blocks.
+pub fn branch(s: &[u8], at: usize) -> Skip
+    ensures { λ r. ⌜ r ≡ skipOf (Read.if (now (s .entry)) at) ⌝ }
+{
+    match expression(s, at) {
+        Skip::At(k) => bytes(s, k, 2, 255),
+        Skip::Bad(p) => Skip::Bad(p),
+    }
+}
+
+// call: a function, its arguments, and the block to return to.
+pub fn call(s: &[u8], at: usize) -> Skip
+    ensures { λ r. ⌜ r ≡ skipOf (Read.call (now (s .entry)) at) ⌝ }
+{
+    match spawn_call(s, at) {
+        Skip::At(k) => bytes(s, k, 1, 255),
+        Skip::Bad(p) => Skip::Bad(p),
+    }
+}
+
+// What follows a transfer's kind.
+pub fn transfer_of(s: &[u8], at: usize, kind: usize) -> Skip
+    ensures { λ r. ⌜ r ≡ skipOf (transferOf kind (now (s .entry)) at) ⌝ }
+{
+    match kind {
+        0 => spawn_call(s, at),
+        1 => branch(s, at),
+        2 => call(s, at),
+        3 => counted(s, at, 4, 15),
+        4 => bytes(s, at, 2, 255),
+        5 => bytes(s, at, 2, 255),
+        _ => Skip::Bad(at),
+    }
+}
+
+pub fn transfer(s: &[u8], at: usize) -> Skip
+    ensures { λ r. ⌜ r ≡ skipOf (Read.transfer (now (s .entry)) at) ⌝ }
+{
+    match byte(s, at, 0, 5) {
+        Found::Byte(kind, k) => transfer_of(s, k, kind),
+        Found::Wrong(p) => Skip::Bad(p),
+    }
+}
+
+pub fn head(s: &[u8], at: usize) -> Skip
+    ensures { λ r. ⌜ r ≡ skipOf (Read.head (now (s .entry)) at) ⌝ }
+{
+    let scope = match counted(s, at, 8, 15) {
+        Skip::At(k) => k,
+        Skip::Bad(p) => return Skip::Bad(p),
+    };
+    let nesting = match bytes(s, scope, 2, 255) {
+        Skip::At(k) => k,
+        Skip::Bad(p) => return Skip::Bad(p),
+    };
+    counted(s, nesting, 4, 255)
+}
+
+pub fn block(s: &[u8], at: usize) -> Skip
+    ensures { λ r. ⌜ r ≡ skipOf (Read.block (now (s .entry)) at) ⌝ }
+{
+    let k = match head(s, at) {
+        Skip::At(k) => k,
+        Skip::Bad(p) => return Skip::Bad(p),
+    };
+    let m = match code(s, k) {
+        Skip::At(m) => m,
+        Skip::Bad(p) => return Skip::Bad(p),
+    };
+    transfer(s, m)
+}

@@ -1,0 +1,118 @@
+-- The 32 bits of a signed word, and sums of words: their low 32 bits are the sum of their bits, modulo 2 ^ 32.
+use Prim.Native.Nat.{ℕ, zero, suc, _+_, _-_, _%_, _^_, _≤_, _<_}
+use native.Mathlib.Omega.{arith}
+use native.Mathlib.Nat.{zero-add}
+use mathlib.Core.Path.{_≡_, refl, sym, ap, _∙_}
+use mathlib.Core.Bool.{Bool, true, false}
+use borrow.Author.Tests.{ltb-true, ltb-false, lt-ltb, le-ltb}
+use lib.Dec.{ltb}
+use lib.IntN.{ℤ, pos, negsuc, subℕ, _+ℤ_, _-ℤ_, negℤ, +ℤ-idl}
+use lib.Signed.{ltZ}
+use mir.Syntax.{w32}
+use mir.Val.{toZ, ofZ, SFits}
+use mir.Facts.{toZ-ofZ, toZ-pos}
+use Rattle.model.specs.Values.{low, wrap, plus, minus}
+
+-- a difference of two numbers, by their order
+pub less-sub : (a b : ℕ) → a < b → subℕ a b ≡ negsuc (b - suc a)
+less-sub a b h = simp (lt-ltb a b h)
+
+pub more-sub : (a b : ℕ) → b ≤ a → subℕ a b ≡ pos (a - b)
+more-sub a b h = simp (le-ltb a b h)
+
+-- what is known of a negative word x: -1 - x is the number n, whose signed reading it is
+pub record Negative (x : ℤ) : Type 0 where
+  pub n : ℕ
+  pub value : ofZ w32 x ≡ 2 ^ 32 - suc n
+  pub small : n < 2 ^ 31
+  pub gap : negsuc 0 -ℤ toZ w32 (ofZ w32 x) ≡ pos n
+  pub back : toZ w32 (ofZ w32 (negsuc 0 -ℤ toZ w32 (ofZ w32 x))) ≡ pos n
+
+pub negative : (x : ℤ) → SFits w32 x → ltZ (toZ w32 (ofZ w32 x)) (pos 0) ≡ true → Negative x
+negative x f t = go x f (rw (toZ-ofZ f) at t)
+  where
+    go : (x : ℤ) → SFits w32 x → ltZ x (pos 0) ≡ true → Negative x
+    go (pos n) f t = absurd (let h : n < 0 = ltb-true n 0 t in omega arith)
+    go (negsuc n) f t =
+        let e : negsuc 0 -ℤ negsuc n ≡ pos n = more-sub (suc n) 1 (omega arith) ∙ ap pos (omega arith) in
+        let g : negsuc 0 -ℤ toZ w32 (ofZ w32 (negsuc n)) ≡ pos n = ap (λ (z : ℤ). negsuc 0 -ℤ z) (toZ-ofZ f) ∙ e in
+        record {
+          n = n;
+          value = refl;
+          small = f .sfits;
+          gap = g;
+          back = ap (λ (z : ℤ). toZ w32 (ofZ w32 z)) g ∙ toZ-pos w32 (f .sfits);
+        }
+
+pub record Positive (x : ℤ) : Type 0 where
+  pub n : ℕ
+  pub value : ofZ w32 x ≡ n
+  pub small : n < 2 ^ 31
+  pub back : toZ w32 (ofZ w32 x) ≡ pos n
+
+pub positive : (x : ℤ) → SFits w32 x → ltZ (toZ w32 (ofZ w32 x)) (pos 0) ≡ false → Positive x
+positive x f t = go x f (rw (toZ-ofZ f) at t)
+  where
+    go : (x : ℤ) → SFits w32 x → ltZ x (pos 0) ≡ false → Positive x
+    go (pos n) f t = record { n = n; value = refl; small = f .sfits; back = toZ-pos w32 (f .sfits) }
+    go (negsuc n) f t = absurd (let z : _≡_ {A = Bool} true false = t in let o : _≡_ {A = ℕ} 0 1 = cc in omega arith)
+
+-- -1 - m, for the 31 bits m
+pub below : (m : ℕ) → negsuc 0 -ℤ pos m ≡ negsuc m
+below zero = refl
+below (suc m) = ap (λ (k : ℕ). negsuc (suc k)) (zero-add m)
+
+pub high : (n : ℕ) → n < 2 ^ 32 → 2 ^ 31 ≤ n → toZ w32 n ≡ negsuc (2 ^ 32 - suc n)
+high n f h = simp (le-ltb n (2 ^ 31) h)
+
+pub flipped : (n : ℕ) → n < 2 ^ 32 → 2 ^ 31 ≤ n → negsuc 0 -ℤ toZ w32 (4294967295 - n) ≡ toZ w32 n
+flipped n f h =
+    let s : 4294967295 - n < 2 ^ 31 = omega arith in
+    ap (λ (z : ℤ). negsuc 0 -ℤ z) (toZ-pos w32 s)
+    ∙ below (4294967295 - n)
+    ∙ ap negsuc (omega arith)
+    ∙ sym (high n f h)
+
+-- the low bits of a word are its bits; of a sum, the sum of the bits
+pub low-word : (x : ℤ) → SFits w32 x → low x ≡ ofZ w32 x
+unfolding low
+low-word (pos n) f = let h : n < 2 ^ 31 = f .sfits in omega arith
+low-word (negsuc n) f = let h : n < 2 ^ 31 = f .sfits in omega arith
+
+low-sub : (a b : ℕ) → low (subℕ a (suc b)) ≡ (a % 2 ^ 32 + (2 ^ 32 - suc (b % 2 ^ 32))) % 2 ^ 32
+unfolding low
+low-sub a b = go (ltb a (suc b)) refl
+  where
+    go : (t : Bool) → ltb a (suc b) ≡ t → low (subℕ a (suc b)) ≡ (a % 2 ^ 32 + (2 ^ 32 - suc (b % 2 ^ 32))) % 2 ^ 32
+    go true e = let h : a < suc b = ltb-true a (suc b) e in ap low (less-sub a (suc b) h) ∙ omega arith
+    go false e = let h : suc b ≤ a = ltb-false a (suc b) e in ap low (more-sub a (suc b) h) ∙ omega arith
+
+pub low-sum : (a b : ℤ) → low (a +ℤ b) ≡ (low a + low b) % 2 ^ 32
+unfolding low
+low-sum (pos a) (pos b) = omega arith
+low-sum (pos a) (negsuc b) = low-sub a b
+low-sum (negsuc a) (pos b) = low-sub b a ∙ omega arith
+low-sum (negsuc a) (negsuc b) = omega arith
+
+pub low-negated : (b : ℤ) → SFits w32 b → low (negℤ b) ≡ (4294967295 - ofZ w32 b + 1) % 2 ^ 32
+unfolding low
+low-negated (pos zero) f = refl
+low-negated (pos (suc n)) f = let h : suc n < 2 ^ 31 = f .sfits in omega arith
+low-negated (negsuc n) f = let h : n < 2 ^ 31 = f .sfits in omega arith
+
+-- what code that adds the bits gives is the word of the sum; what adds the bits of one and the bits of the other, flipped, and 1, that of the difference
+pub added : (a b r : ℤ) (p q n : ℕ) → SFits w32 a → SFits w32 b → SFits w32 r → p ≡ ofZ w32 (toZ w32 (ofZ w32 a)) → q ≡ ofZ w32 (toZ w32 (ofZ w32 b)) → n ≡ (p + q) % 2 ^ 32 → r ≡ toZ w32 n → toZ w32 (ofZ w32 r) ≡ plus a b
+unfolding plus wrap
+added a b r p q n f g h e₁ e₂ e₃ e₄ =
+    let e : n ≡ low (a +ℤ b) = rw (e₃, e₁, e₂, toZ-ofZ f, toZ-ofZ g, low-sum a b, low-word a f, low-word b g) in
+    toZ-ofZ h ∙ e₄ ∙ ap (toZ w32) e
+
+pub subtracted : (a b r : ℤ) (p q m n : ℕ) → SFits w32 a → SFits w32 b → SFits w32 r → p ≡ ofZ w32 (toZ w32 (ofZ w32 a)) → q ≡ ofZ w32 (toZ w32 (ofZ w32 b)) → m ≡ (4294967295 - q + 1) % 2 ^ 32 → n ≡ (p + m) % 2 ^ 32 → r ≡ toZ w32 n → toZ w32 (ofZ w32 r) ≡ wrap (a -ℤ b)
+unfolding wrap
+subtracted a b r p q m n f g h e₁ e₂ e₃ e₄ e₅ =
+    let e : n ≡ low (a -ℤ b) = rw (e₄, e₃, e₁, e₂, toZ-ofZ f, toZ-ofZ g, low-sum a (negℤ b), low-word a f, low-negated b g) in
+    toZ-ofZ h ∙ e₅ ∙ ap (toZ w32) e
+
+pub zero-minus : (m r : ℤ) → SFits w32 m → SFits w32 r → r ≡ wrap (pos 0 -ℤ toZ w32 (ofZ w32 m)) → toZ w32 (ofZ w32 r) ≡ minus m
+unfolding minus
+zero-minus m r f h e = toZ-ofZ h ∙ e ∙ ap wrap (ap (λ (z : ℤ). pos 0 -ℤ z) (toZ-ofZ f) ∙ +ℤ-idl (negℤ m))
