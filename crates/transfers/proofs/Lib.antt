@@ -1,0 +1,3 @@
+pub mod Heads
+pub mod Nestings
+pub mod Judged

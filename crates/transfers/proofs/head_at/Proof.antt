@@ -1,0 +1,27 @@
+-- `transfers::head_at` meets its contract.
+use Rattle.transfers.proofs.Heads.{head-past, head-read}
+use borrow.Author.Needs.{needs}
+use Rattle.transfers.proofs.head_at.Statement.{statement}
+use Rattle.transfers.proofs.head_at.Tie as tie
+
+pub head-at-spec : {M : Type 1} → statement M
+head-at-spec =
+    tie.close
+    (tie.spec
+    (λ c. let a = c .before .before .args in head-past (a .s .now) (a .at) _ (c .if1 .taken))
+    (λ c κs. search needs)
+    (λ c. search needs)
+    (λ c. search needs)
+    (λ c. search needs)
+    (λ c κs. search needs)
+    (λ c. search needs)
+    (λ c κs. search needs)
+    (λ c κs. search needs)
+    (λ c. search needs)
+    (λ c κs. search needs)
+    (λ c. search needs)
+    (λ c. search needs)
+    (λ c. search needs)
+    (λ c. search needs)
+    (λ c. search needs)
+    (λ c. let a = c .before .before .before .before .before .before .before .args in head-read (a .s .now) (a .at) (c .before .before .before .before .byte .result) (c .before .before .before .byte2 .result) (c .before .before .byte3 .result) (c .before .half .result) (c .byte4 .result) (c .before .before .before .before .byte .ensures) (c .before .before .before .byte2 .ensures) (c .before .before .byte3 .ensures) (c .before .half .ensures) (c .byte4 .ensures)))

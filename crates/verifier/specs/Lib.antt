@@ -1,0 +1,3 @@
+pub mod Verdicts
+pub mod Answers
+pub mod Means

@@ -1,0 +1,21 @@
+-- `walks::expression` meets its contract.
+use native.Mathlib.Omega.{arith}
+use Rattle.walks.proofs.Says.{expression-past, expression-out, expression-in, expression-on}
+use borrow.Author.Needs.{needs}
+use Rattle.walks.proofs.expression.Statement.{statement}
+use Rattle.walks.proofs.expression.Tie as tie
+
+pub expression-spec : {M : Type 1} → statement M
+expression-spec =
+    tie.close
+    (tie.spec
+    (λ c. expression-past _ _ _ (search needs))
+    (λ c. search needs)
+    (λ c κs. search needs)
+    (λ c. search needs)
+    (λ c. search needs)
+    (λ c κs. search needs)
+    (λ c κs. search needs)
+    (λ c. expression-out _ _ _ (c .before .before .atom .ensures) (c .enum-told .given .1))
+    (λ c. expression-in _ _ _ (c .before .before .before .before .before .atom .ensures) (c .before .before .before .k .given .1) (omega (arith, c .before .byte .ensures)))
+    (λ c. let a = c .before .before .before .before .before .before .before .before .before .args in expression-on (a .s .now) (a .at) (a .set) (c .atom2 .result) (c .before .before .before .before .before .before .atom .ensures) (c .before .before .before .before .k .given .1) (omega (arith, c .before .before .byte .ensures)) (c .atom2 .ensures)))
