@@ -1,0 +1,105 @@
+-- What stands at an offset of a table, whatever the bytes are: what code that reads in place finds there. Where the table reads,
+-- these are what was read.
+use Prim.Native.Nat.{ℕ, zero, suc, _+_, _*_, min}
+use mathlib.Core.Bool.{cond}
+use mathlib.Core.List.{List, [], _∷_}
+use lib.Dec.{eqb, leb}
+use lib.IntN.{ℤ}
+use lib.ListN.{length, getD}
+use Rattle.model.specs.Values.{signed}
+use Rattle.model.specs.Syntax.{Atom, Expression, Statement, Transfer}
+
+-- the byte at an offset, and 0 past the end
+abbrev pub byteAt : List ℕ → ℕ → ℕ
+byteAt s at = getD s at 0
+
+-- the offset n bytes on, as long as that is within the table
+unfoldable pub past : List ℕ → ℕ → ℕ → ℕ
+past s at n = cond (leb (at + n) (length s)) (at + n) at
+
+-- n bytes from an offset on
+unfoldable pub run : List ℕ → ℕ → ℕ → List ℕ
+run s at zero = []
+run s at (suc n) = byteAt s at ∷ run s (past s at 1) n
+
+-- an argument list, of no more than 8; where a counted list of bytes ends
+abbrev pub most : ℕ
+most = 8
+
+unfoldable pub countAt : List ℕ → ℕ → ℕ
+countAt s at = min (byteAt s at) most
+
+unfoldable pub argumentsAt : List ℕ → ℕ → List ℕ
+argumentsAt s at = run s (past s at 1) (countAt s at)
+
+unfoldable pub listEnd : List ℕ → ℕ → ℕ
+listEnd s at = past s (past s at 1) (byteAt s at)
+
+-- numbers of two and of four bytes
+unfoldable pub halfAt : List ℕ → ℕ → ℕ
+halfAt s at = byteAt s at * 256 + byteAt s (past s at 1)
+
+unfoldable pub wordAt : List ℕ → ℕ → ℕ
+wordAt s at = halfAt s at * 65536 + halfAt s (past s at 2)
+
+-- an atom by its kind, and where it ends
+unfoldable pub atomOf : ℕ → ℤ → ℕ → Atom
+atomOf zero v x = Atom.value v
+atomOf (suc kind) v x = Atom.temporary x
+
+unfoldable pub atomAt : List ℕ → ℕ → Atom
+atomAt s at = atomOf (byteAt s at) (signed (wordAt s (past s at 1))) (byteAt s (past s at 1))
+
+unfoldable pub atomEnd : List ℕ → ℕ → ℕ
+atomEnd s at = cond (eqb (byteAt s at) 0) (past s (past s at 1) 4) (past s (past s at 1) 1)
+
+-- how many atoms an expression of a kind has
+unfoldable pub operands : ℕ → ℕ
+operands zero = 1
+operands (suc zero) = 1
+operands (suc (suc kind)) = 2
+
+-- an expression by its kind, and where it ends
+unfoldable pub expressionOf : ℕ → Atom → Atom → Expression
+expressionOf zero m n = Expression.atom m
+expressionOf (suc zero) m n = Expression.minus m
+expressionOf (suc (suc zero)) m n = Expression.plus m n
+expressionOf (suc (suc (suc kind))) m n = Expression.less m n
+
+unfoldable pub secondAt : List ℕ → ℕ → ℕ
+secondAt s at = atomEnd s (past s at 1)
+
+unfoldable pub expressionAt : List ℕ → ℕ → Expression
+expressionAt s at = expressionOf (byteAt s at) (atomAt s (past s at 1)) (atomAt s (secondAt s at))
+
+unfoldable pub expressionEnd : List ℕ → ℕ → ℕ
+expressionEnd s at = cond (eqb (operands (byteAt s at)) 2) (atomEnd s (secondAt s at)) (secondAt s at)
+
+-- a statement, where it ends, and where n of them end
+unfoldable pub statementAt : List ℕ → ℕ → Statement
+statementAt s at = record { target = byteAt s at; source = expressionAt s (past s at 1) }
+
+unfoldable pub statementEnd : List ℕ → ℕ → ℕ
+statementEnd s at = expressionEnd s (past s at 1)
+
+unfoldable pub statementsEnd : List ℕ → ℕ → ℕ → ℕ
+statementsEnd s at zero = at
+statementsEnd s at (suc n) = statementsEnd s (statementEnd s at) n
+
+-- where a block's head ends: its parameters, two bytes of scope, its nesting
+unfoldable pub headEnd : List ℕ → ℕ → ℕ
+headEnd s at = listEnd s (past s (listEnd s at) 2)
+
+-- a transfer by its kind
+unfoldable pub transferOf : ℕ → List ℕ → ℕ → Transfer
+transferOf zero s at = Transfer.goto (byteAt s at) (argumentsAt s (past s at 1))
+transferOf (suc zero) s at =
+    Transfer.if (expressionAt s at) (byteAt s (expressionEnd s at)) (byteAt s (past s (expressionEnd s at) 1))
+transferOf (suc (suc zero)) s at =
+    Transfer.call (byteAt s at) (argumentsAt s (past s at 1)) (byteAt s (listEnd s (past s at 1)))
+transferOf (suc (suc (suc zero))) s at = Transfer.return (argumentsAt s at)
+transferOf (suc (suc (suc (suc zero)))) s at = Transfer.spork (byteAt s at) (byteAt s (past s at 1))
+transferOf (suc (suc (suc (suc (suc kind))))) s at = Transfer.spoin (byteAt s at) (byteAt s (past s at 1))
+
+unfoldable pub transferAt : List ℕ → ℕ → Transfer
+transferAt s at = transferOf (byteAt s at) s (past s at 1)

@@ -1,0 +1,219 @@
+-- Edits of the words that hold a pool, and the pool that they hold afterwards.
+use Prim.Native.Nat.{ℕ, suc, _+_, _*_, _-_, _≤_, _<_}
+use mathlib.Core.Path.{_≡_, refl, sym, ap, subst, _∙_}
+use mathlib.Core.List.{List, [], _∷_, _++_, reverse, reverse-cons, append-assoc, append-nil}
+use native.Mathlib.Omega.{arith}
+use lib.Dec.{lit≤}
+use lib.IntN.{ℤ, pos}
+use lib.ListN.{length, take, drop, set, length-append, length-reverse, length-replicate, replicate-append-replicate}
+use lib.Seq.{take-all}
+use Rattle.model.specs.Lists.{Each, concat}
+use Rattle.model.specs.Pool.{Frame, Thread, Pool, mostFrames, frameWords, threadWords, frames, wordsOfFrame, wordsOfThread, wordsOf}
+use Rattle.model.specs.Frames.{deque}
+use Rattle.model.proofs.Facts.{each-right}
+use Rattle.model.proofs.Words.{FrameFits, ThreadFits, PoolFits, each-reverse, frame-length, thread-length}
+use Rattle.words.specs.Runs.{pasted, cleared}
+use Rattle.frames.specs.Held.{startOf, ThreadAt, FrameAt}
+use Rattle.frames.proofs.Parts.{zeros, paste-parts, paste-paste, paste-all, set-pasted, cleared-pasted}
+use Rattle.frames.proofs.Places.{written-one, set-in, within-long, framesWords, frames-length, thread-parts, Around, around, within-fits, around-fits, within, pool-within, paste-in, read-in, Beside, beside, beside-fits, amid, thread-amid, paste-amid, read-amid}
+
+-- one frame of a thread of a pool
+pub record Slot (a b : Pool) (t : Thread) (K₁ K₂ : List Frame) (k : Frame) : Type 0 where
+  pub pool : Around a b
+  pub thread : Beside K₁ K₂
+  pub is : frames t ≡ K₁ ++ k ∷ K₂
+  pub fits : FrameFits k
+
+module _ {a b : Pool} {t : Thread} {K₁ K₂ : List Frame} {k : Frame} where
+  pub slot : {d : List ℤ} {i j : ℕ} → ThreadAt d i a t b → FrameAt t j K₁ k K₂ → Slot a b t K₁ K₂ k
+  slot h e =
+      let f = within-fits a b t (h .held .fits) in
+      let g : Each FrameFits (K₁ ++ k ∷ K₂) = subst (Each FrameFits) (e .is) (f .each) in
+      record {
+        pool = around a b t (h .held .fits);
+        thread = beside t K₁ K₂ k (e .is) f;
+        is = e .is;
+        fits = each-right FrameFits K₁ (k ∷ K₂) g .0;
+      }
+
+  pub slot-thread : Slot a b t K₁ K₂ k → ThreadFits t
+  slot-thread s = beside-fits t K₁ K₂ k (s .is) (s .thread) (s .fits)
+
+  pub slot-pool : Slot a b t K₁ K₂ k → PoolFits (a ++ t ∷ b)
+  slot-pool s = around-fits a b t (s .pool) (slot-thread s)
+
+  -- the pool's words around the frame's
+  slot-words : Slot a b t K₁ K₂ k → wordsOf (a ++ t ∷ b) ≡ within a b (amid K₁ K₂ (wordsOfFrame k))
+  slot-words s = pool-within a b t (s .pool) (slot-thread s) ∙ ap (within a b) (thread-amid t K₁ K₂ k (s .is) (s .thread) (s .fits))
+
+  amid-length : Slot a b t K₁ K₂ k → length (amid K₁ K₂ (wordsOfFrame k)) ≡ threadWords
+  amid-length s = ap length (sym (thread-amid t K₁ K₂ k (s .is) (s .thread) (s .fits))) ∙ thread-length (slot-thread s)
+
+  pub slot-read : Slot a b t K₁ K₂ k → take frameWords (drop (startOf (length a) (length K₂)) (wordsOf (a ++ t ∷ b))) ≡ wordsOfFrame k
+  slot-read s =
+      let l : 1 + frameWords * length K₂ + frameWords ≤ length (amid K₁ K₂ (wordsOfFrame k)) = omega (arith, amid-length s, s .thread .few) in
+      let n : length (wordsOfFrame k) ≡ frameWords = frame-length (s .fits) in
+      ap (λ (d : List ℤ). take frameWords (drop (startOf (length a) (length K₂)) d)) (slot-words s)
+      ∙ read-in a b (amid K₁ K₂ (wordsOfFrame k)) (startOf (length a) (length K₂)) (1 + frameWords * length K₂) (s .pool) (omega arith) frameWords l
+      ∙ read-amid K₁ K₂ (wordsOfFrame k) (1 + frameWords * length K₂) 0 (s .thread) (omega arith) frameWords (omega arith)
+      ∙ take-all frameWords (wordsOfFrame k) (omega arith)
+
+  -- a paste into the frame's words
+  pub slot-pasted : Slot a b t K₁ K₂ k → (ws : List ℤ) (at off : ℕ) → at ≡ startOf (length a) (length K₂) + off → off + length ws ≤ frameWords
+      → pasted (wordsOf (a ++ t ∷ b)) at ws ≡ within a b (amid K₁ K₂ (pasted (wordsOfFrame k) off ws))
+  slot-pasted s ws at off e h =
+      let l : 1 + frameWords * length K₂ + off + length ws ≤ length (amid K₁ K₂ (wordsOfFrame k)) = omega (arith, amid-length s, s .thread .few) in
+      ap (λ (d : List ℤ). pasted d at ws) (slot-words s)
+      ∙ paste-in a b (amid K₁ K₂ (wordsOfFrame k)) at (1 + frameWords * length K₂ + off) (s .pool) (omega arith) ws l
+      ∙ ap (within a b) (paste-amid K₁ K₂ (wordsOfFrame k) (1 + frameWords * length K₂ + off) off (s .thread) refl ws (omega (arith, frame-length (s .fits))))
+
+-- one frame's words are edited
+module _ {a b : Pool} {t t′ : Thread} {K₁ K₂ : List Frame} {k k′ : Frame} {d : List ℤ} {i j : ℕ} where
+  pub frame-edited : ThreadAt d i a t b → FrameAt t j K₁ k K₂ → FrameAt t′ j K₁ k′ K₂ → FrameFits k′
+      → (ws : List ℤ) (at off : ℕ) → at ≡ startOf i j + off → off + length ws ≤ frameWords
+      → pasted (wordsOfFrame k) off ws ≡ wordsOfFrame k′
+      → ThreadAt (pasted d at ws) i a t′ b
+  frame-edited h e e′ f ws at off p l q =
+      let s = slot h e in
+      let s′ : Slot a b t′ K₁ K₂ k′ = record { pool = s .pool; thread = s .thread; is = e′ .is; fits = f } in
+      record {
+        held = record {
+          words =
+              ap (λ (w : List ℤ). pasted w at ws) (h .held .words)
+              ∙ slot-pasted s ws at off (omega (arith, h .place, e .place)) l
+              ∙ ap (λ (F : List ℤ). within a b (amid K₁ K₂ F)) q
+              ∙ sym (slot-words s′);
+          fits = slot-pool s′;
+        };
+        place = h .place;
+      }
+
+  -- a frame in the place of another
+  pub frame-replaced : ThreadAt d i a t b → FrameAt t j K₁ k K₂ → FrameAt t′ j K₁ k′ K₂ → FrameFits k′
+      → (at : ℕ) → at ≡ startOf i j → ThreadAt (pasted d at (wordsOfFrame k′)) i a t′ b
+  frame-replaced h e e′ f at p =
+      let s = slot h e in
+      frame-edited h e e′ f (wordsOfFrame k′) at 0 (omega arith) (omega (arith, frame-length f))
+      (paste-all (wordsOfFrame k) (wordsOfFrame k′) (frame-length (s .fits) ∙ sym (frame-length f)))
+
+-- what stands at a frame's start
+pub frame-read : {a b : Pool} {t : Thread} {K₁ K₂ : List Frame} {k : Frame} {d : List ℤ} {i j : ℕ}
+    → ThreadAt d i a t b → FrameAt t j K₁ k K₂ → (at : ℕ) → at ≡ startOf i j → take frameWords (drop at d) ≡ wordsOfFrame k
+frame-read {a} {b} {t} {K₁} {K₂} {k} {d} {i} {j} h e at p =
+    let n : at ≡ startOf (length a) (length K₂) = omega (arith, h .place, e .place) in
+    let s : Slot a b t K₁ K₂ k = slot h e in
+    rw (n, h .held .words) (slot-read s)
+
+-- one more promoted call
+promoted-fits : {k : Frame} (n : ℕ) → FrameFits k → FrameFits (deque k (k .calls) n)
+unfolding deque
+promoted-fits n f = record { calls = f .calls; values = f .values }
+
+promoted-word : (k : Frame) (n : ℕ) → pasted (wordsOfFrame k) 5 (pos n ∷ []) ≡ wordsOfFrame (deque k (k .calls) n)
+unfolding pasted wordsOfFrame deque
+promoted-word k n = refl
+
+pub call-promoted : {a b : Pool} {t t′ : Thread} {K₁ K₂ : List Frame} {k : Frame} {d : List ℤ} {i j : ℕ} (n : ℕ)
+    → ThreadAt d i a t b → FrameAt t j K₁ k K₂ → FrameAt t′ j K₁ (deque k (k .calls) n) K₂
+    → (at : ℕ) → at ≡ startOf i j + 5 → at < length d → ThreadAt (set d at (pos n)) i a t′ b
+call-promoted {a} {b} {t} {t′} {K₁} {K₂} {k} {d} {i} {j} n h e e′ at p l =
+    let s = slot h e in
+    rw (set-pasted d at (pos n) l)
+    (frame-edited h e e′ (promoted-fits n (s .fits)) (pos n ∷ []) at 5 p (lit≤ tt) (promoted-word k n))
+
+zeros-split : (w : List ℤ) (s z : ℕ) → w ++ zeros (s + z) ≡ w ++ zeros s ++ zeros z
+zeros-split w s z = ap (λ (v : List ℤ). w ++ v) (sym (replicate-append-replicate s z (pos 0))) ∙ sym (append-assoc w (zeros s) (zeros z))
+
+-- a thread's newest two frames, over the frames K: the newer one may not be there
+module _ (K : List Frame) (f : Each FrameFits K) (few : suc (length K) < mostFrames) where
+  abbrev above : ℕ
+  above = (mostFrames - suc (suc (length K))) * frameWords
+
+  single : (k : Frame) → FrameFits k
+      → wordsOfThread (record { newest = k; older = K })
+      ≡ pos (suc (length K)) ∷ (framesWords (reverse K) ++ (wordsOfFrame k ++ zeros frameWords ++ zeros above))
+  single k g =
+      thread-parts (record { newest = k; older = K }) (reverse K) (k ∷ []) (frameWords + above) (reverse-cons k K)
+      (omega (arith, length-reverse K)) (each-reverse FrameFits K f) (g, tt)
+      ∙ ap (λ (w : List ℤ). pos (suc (length K)) ∷ (framesWords (reverse K) ++ (w ++ zeros (frameWords + above)))) (written-one wordsOfFrame k)
+      ∙ ap (λ (w : List ℤ). pos (suc (length K)) ∷ (framesWords (reverse K) ++ w)) (zeros-split (wordsOfFrame k) frameWords above)
+
+  double : (k l : Frame) → FrameFits k → FrameFits l
+      → wordsOfThread (record { newest = l; older = k ∷ K })
+      ≡ pos (suc (suc (length K))) ∷ (framesWords (reverse K) ++ (wordsOfFrame k ++ wordsOfFrame l ++ zeros above))
+  unfolding concat
+  double k l g h =
+      thread-parts (record { newest = l; older = k ∷ K }) (reverse K) (k ∷ l ∷ []) above
+      (reverse-cons l (k ∷ K) ∙ ap (λ (L : List Frame). L ++ (l ∷ [])) (reverse-cons k K) ∙ append-assoc (reverse K) (k ∷ []) (l ∷ []))
+      (omega (arith, length-reverse K)) (each-reverse FrameFits K f) (g, (h, tt))
+      ∙ ap (λ (w : List ℤ). pos (suc (suc (length K))) ∷ (framesWords (reverse K) ++ (wordsOfFrame k ++ w ++ zeros above))) (append-nil (wordsOfFrame l))
+
+  -- both are written anew, and the count
+  two-pasted : (a b : Pool) → Around a b → (n m : ℕ) (M x y : List ℤ) (at₀ at₁ at₂ : ℕ)
+      → at₀ ≡ 1 + threadWords * length a → at₁ ≡ startOf (length a) (length K) → at₂ ≡ startOf (length a) (suc (length K))
+      → length M ≡ frameWords + frameWords → length x ≡ frameWords → length y ≡ frameWords
+      → pasted (pasted (set (within a b (pos n ∷ (framesWords (reverse K) ++ (M ++ zeros above)))) at₀ (pos m)) at₁ x) at₂ y
+      ≡ within a b (pos m ∷ (framesWords (reverse K) ++ (x ++ y ++ zeros above)))
+  two-pasted a b h n m M x y at₀ at₁ at₂ e₀ e₁ e₂ l₀ l₁ l₂ =
+      let A : List ℤ = framesWords (reverse K) in
+      let R : List ℤ = pos m ∷ (A ++ (M ++ zeros above)) in
+      let la : length A ≡ length K * frameWords = frames-length (reverse K) (each-reverse FrameFits K f) ∙ ap (λ (c : ℕ). c * frameWords) (length-reverse K) in
+      let lr : length R ≡ threadWords = ap suc (simp (length-append, length-replicate) (omega arith)) in
+      let lxy : length (x ++ y) ≡ length M = simp length-append (omega arith) in
+      let lw : 1 + threadWords * length a + length R ≤ length (within a b R) = within-long a b R h in
+      ap (λ (w : List ℤ). pasted (pasted w at₁ x) at₂ y) (set-in a b (pos n) (pos m) (A ++ (M ++ zeros above)) at₀ h e₀)
+      ∙ paste-paste (within a b R) x y at₁ at₂ (omega arith) (omega arith)
+      ∙ paste-in a b R at₁ (1 + frameWords * length K) h (omega arith) (x ++ y) (omega arith)
+      ∙ ap (within a b) (paste-parts (pos m ∷ A) M (zeros above) (x ++ y) (1 + frameWords * length K) (omega arith) (sym lxy))
+
+  two-edited : {a b : Pool} {t t′ : Thread} {d : List ℤ} {i : ℕ} → ThreadAt d i a t b → ThreadFits t′ → (n m : ℕ) (M x y : List ℤ) (at₀ at₁ at₂ : ℕ)
+      → at₀ ≡ 1 + threadWords * i → at₁ ≡ startOf i (length K) → at₂ ≡ startOf i (suc (length K))
+      → length M ≡ frameWords + frameWords → length x ≡ frameWords → length y ≡ frameWords
+      → wordsOfThread t ≡ pos n ∷ (framesWords (reverse K) ++ (M ++ zeros above))
+      → wordsOfThread t′ ≡ pos m ∷ (framesWords (reverse K) ++ (x ++ y ++ zeros above))
+      → ThreadAt (pasted (pasted (set d at₀ (pos m)) at₁ x) at₂ y) i a t′ b
+  two-edited {a} {b} {t} {t′} h g n m M x y at₀ at₁ at₂ e₀ e₁ e₂ l₀ l₁ l₂ w w′ =
+      let o : Around a b = around a b t (h .held .fits) in
+      record {
+        held = record {
+          words =
+              ap (λ (v : List ℤ). pasted (pasted (set v at₀ (pos m)) at₁ x) at₂ y)
+              (h .held .words ∙ pool-within a b t o (within-fits a b t (h .held .fits)) ∙ ap (within a b) w)
+              ∙ two-pasted a b o n m M x y at₀ at₁ at₂ (omega (arith, h .place)) (omega (arith, h .place)) (omega (arith, h .place)) l₀ l₁ l₂
+              ∙ ap (within a b) (sym w′)
+              ∙ sym (pool-within a b t′ o g);
+          fits = around-fits a b t′ o g;
+        };
+        place = h .place;
+      }
+
+two-long : (x y : List ℤ) → length x ≡ frameWords → length y ≡ frameWords → length (x ++ y) ≡ frameWords + frameWords
+two-long x y e f = simp length-append (omega arith)
+
+module _ {a b : Pool} {K : List Frame} {d : List ℤ} {i : ℕ} {k : Frame} where
+  -- a call: the caller is written anew, and the callee above it
+  pub pushed : ThreadAt d i a (record { newest = k; older = K }) b → suc (length K) < mostFrames
+      → (k′ l : Frame) → FrameFits k′ → FrameFits l
+      → (at₀ at₁ at₂ : ℕ) → at₀ ≡ 1 + threadWords * i → at₁ ≡ startOf i (length K) → at₂ ≡ startOf i (suc (length K))
+      → ThreadAt (pasted (pasted (set d at₀ (pos (suc (suc (length K))))) at₁ (wordsOfFrame k′)) at₂ (wordsOfFrame l)) i a (record { newest = l; older = k′ ∷ K }) b
+  pushed h few k′ l f g at₀ at₁ at₂ e₀ e₁ e₂ =
+      let t : ThreadFits (record { newest = k; older = K }) = within-fits a b (record { newest = k; older = K }) (h .held .fits) in
+      two-edited K (t .each .1) few h (record { few = few; each = (g, (f, t .each .1)) }) (suc (length K)) (suc (suc (length K)))
+      (wordsOfFrame k ++ zeros frameWords) (wordsOfFrame k′) (wordsOfFrame l) at₀ at₁ at₂ e₀ e₁ e₂
+      (two-long (wordsOfFrame k) (zeros frameWords) (frame-length (t .each .0)) refl) (frame-length f) (frame-length g)
+      (single K (t .each .1) few k (t .each .0))
+      (double K (t .each .1) few k′ l f g)
+
+  -- a return: the caller is written anew, and the words above it are free
+  pub popped : {l : Frame} → ThreadAt d i a (record { newest = l; older = k ∷ K }) b
+      → (k′ : Frame) → FrameFits k′
+      → (at₀ at₁ at₂ : ℕ) → at₀ ≡ 1 + threadWords * i → at₁ ≡ startOf i (length K) → at₂ ≡ startOf i (suc (length K))
+      → ThreadAt (cleared (pasted (set d at₀ (pos (suc (length K)))) at₁ (wordsOfFrame k′)) at₂ frameWords) i a (record { newest = k′; older = K }) b
+  popped {l} h k′ f at₀ at₁ at₂ e₀ e₁ e₂ =
+      let t : ThreadFits (record { newest = l; older = k ∷ K }) = within-fits a b (record { newest = l; older = k ∷ K }) (h .held .fits) in
+      rw (cleared-pasted (pasted (set d at₀ (pos (suc (length K)))) at₁ (wordsOfFrame k′)) at₂ frameWords)
+      (two-edited K (t .each .1 .1) (t .few) h (record { few = omega (arith, t .few); each = (f, t .each .1 .1) }) (suc (suc (length K))) (suc (length K))
+      (wordsOfFrame k ++ wordsOfFrame l) (wordsOfFrame k′) (zeros frameWords) at₀ at₁ at₂ e₀ e₁ e₂
+      (two-long (wordsOfFrame k) (wordsOfFrame l) (frame-length (t .each .1 .0)) (frame-length (t .each .0))) (frame-length f) refl
+      (double K (t .each .1 .1) (t .few) k l (t .each .1 .0) (t .each .0))
+      (single K (t .each .1 .1) (t .few) k′ f))

@@ -1,0 +1,16 @@
+-- `frames::call_word`: by the test.
+use borrow.Author.Needs.{needs}
+use borrow.Author.Tests.{lt-ltb, le-ltb}
+use mir.Syntax.{w32}
+use mir.Facts.{toZ-pos}
+use native.Mathlib.Omega.{arith}
+use Rattle.frames.proofs.call_word.Statement.{statement}
+use Rattle.frames.proofs.call_word.Tie as tie
+
+pub call-word-spec : {M : Type 1} → statement M
+call-word-spec =
+    tie.close
+    (tie.spec
+    (λ c. search needs)
+    (λ c. rw (lt-ltb _ _ (c .if1 .taken)) (toZ-pos w32 (omega arith)))
+    (λ c. rw (le-ltb _ _ (c .if1 .left))))

@@ -1,0 +1,31 @@
+-- `frames::pop_frame`: the count, one frame pasted, and one cleared.
+use borrow.Author.Needs.{needs}
+use denote.Ref.{now}
+use Rattle.frames.proofs.Steps.{was-popped}
+use Rattle.frames.proofs.pop_frame.Statement.{statement}
+use Rattle.frames.proofs.pop_frame.Tie as tie
+
+pub pop-frame-spec : {M : Type 1} → statement M
+pop-frame-spec =
+    tie.close
+    (tie.spec
+    (λ c κs. search needs)
+    (λ c κs. search needs)
+    (λ c. search needs)
+    (λ c κs. search needs)
+    (λ c. search needs)
+    (λ c κs. search needs)
+    (λ c κs. search needs)
+    (λ c. search needs)
+    (λ c κs. search needs)
+    (λ c κs. search needs)
+    (λ c. search needs)
+    (λ c.
+    let s = c .before .before .before .before .before .before .before .before .before .before .before .before .before .before in
+    was-popped (now (s .args .ws)) (s .args .thread) _ _ _ _ _ _ _ (s .args .caller)
+    (c .before .before .before .before .before .before .before .before .before .before .before .before .frame-count .ensures)
+    (c .before .before .before .before .before .before .before .before .before .before .thread-start .ensures)
+    (c .before .before .before .before .before .before .before .before .before .set-count .ensures)
+    (c .before .before .before .before .before .before .frame-start .ensures)
+    (c .before .before .before .before .before .write-frame .ensures) (c .before .before .frame-start2 .ensures)
+    (c .before .clear .ensures)))

@@ -1,0 +1,223 @@
+// Which words are a pool of a table (13): one look at each word, no copy, and the first fault ends it.
+ghost use mathlib.Core.Path.{_≡_};
+ghost use Prim.Native.Nat.{_<_, _≤_};
+ghost use lib.IntN.{pos};
+ghost use lib.ListN.{length, getD};
+ghost use Rattle.model.specs.Lists.{all};
+ghost use Rattle.model.specs.Pool.{blank};
+ghost use Rattle.judge.specs.Judged.{isZero, IsNumber, Counts, JudgesPlace, JudgesCalls, follows, JudgesFrame, JudgesFrames, JudgesThread, JudgesTrees, JudgesPool};
+use places::Place;
+
+// How many children a thread has, or that its words are no thread.
+pub enum Children {
+    Are(usize),
+    Bad,
+}
+
+// Word i as a number. A negative word is above every limit.
+fn number(ws: &[i32], i: usize) -> usize
+    requires { ⌜ i < length (now ws) ⌝ }
+    ensures { λ r. ⌜ IsNumber (getD (now (ws .entry)) i (pos 0)) r ⌝ }
+{
+    let w = ws[i];
+    if w < 0 { 2147483648 } else { w as usize }
+}
+
+// Are they all 0?
+fn zeros(ws: &[i32]) -> bool
+    ensures { λ r. ⌜ r ≡ all isZero (now (ws .entry)) ⌝ }
+{
+    let mut i = 0;
+    while i < ws.len() {
+        if ws[i] != 0 {
+            return false;
+        }
+        i += 1;
+    }
+    true
+}
+
+// Are the values of the unbound temporaries 0?
+fn values(bound: usize, ws: &[i32]) -> bool
+    requires { ⌜ length (now ws) ≡ 16 ⌝ }
+    ensures { λ r. ⌜ r ≡ blank bound 0 (now (ws .entry)) ⌝ }
+{
+    let mut i = 0;
+    while i < 16 {
+        if (bound >> i) % 2 != 1 {
+            if ws[i] != 0 {
+                return false;
+            }
+        }
+        i += 1;
+    }
+    true
+}
+
+// How many statements the block at an offset has: behind the parameters, two bytes of scope and the nesting.
+fn statements(s: &[u8], at: usize) -> usize
+    ensures { λ r. ⌜ Counts (now (s .entry)) at r ⌝ }
+{
+    if at < s.len() {
+        let parameters = s[at] as usize;
+        if parameters + 3 < s.len() - at {
+            let k = at + parameters + 3;
+            let nesting = s[k] as usize;
+            if nesting + 1 < s.len() - k {
+                return s[k + nesting + 1] as usize;
+            }
+        }
+    }
+    0
+}
+
+// Is the block there, with at least so many statements?
+fn place(s: &[u8], places: &[u16; 656], f: usize, b: usize, done: usize) -> bool
+    ensures { λ r. ⌜ JudgesPlace (now (s .entry)) (now (places .entry)) f b done r ⌝ }
+{
+    match places::block(places, f, b) {
+        Place::At(at) => done <= statements(s, at),
+        Place::Nowhere => false,
+    }
+}
+
+// Is each word the number of a spawn call of function f?
+fn calls(places: &[u16; 656], f: usize, ws: &[i32]) -> bool
+    ensures { λ r. ⌜ JudgesCalls (now (places .entry)) f (now (ws .entry)) r ⌝ }
+{
+    let mut i = 0;
+    while i < ws.len() {
+        match places::spawn(places, f, number(ws, i)) {
+            Place::At(_) => {}
+            Place::Nowhere => return false,
+        }
+        i += 1;
+    }
+    true
+}
+
+// Are the 26 words a frame of the table?
+fn frame(s: &[u8], places: &[u16; 656], w: &[i32]) -> bool
+    requires { ⌜ length (now w) ≡ 26 ⌝ }
+    ensures { λ r. ⌜ JudgesFrame (now (s .entry)) (now (places .entry)) (now (w .entry)) r ⌝ }
+{
+    let f = number(w, 0);
+    let opened = number(w, 4);
+    if 4 < opened {
+        return false;
+    }
+    if opened < number(w, 5) {
+        return false;
+    }
+    let bound = number(w, 3);
+    if 65535 < bound {
+        return false;
+    }
+    if !place(s, places, f, number(w, 1), number(w, 2)) {
+        return false;
+    }
+    let k = 6 + opened;
+    if !calls(places, f, &w[6..k]) {
+        return false;
+    }
+    if !zeros(&w[k..10]) {
+        return false;
+    }
+    values(bound, &w[10..26])
+}
+
+// Has an older frame no statements done, and a frame behind a promoted call promoted ones only?
+fn follow(w: &[i32], newest: bool, free: bool) -> bool
+    requires { ⌜ length (now w) ≡ 26 ⌝ }
+    ensures { λ r. ⌜ r ≡ follows newest free (now (w .entry)) ⌝ }
+{
+    (newest | (number(w, 2) == 0)) & (free | (number(w, 5) == number(w, 4)))
+}
+
+// The first n of eight frames, the newest, which is the last, first. `free`: no newer frame has a promoted call.
+fn frames(s: &[u8], places: &[u16; 656], ws: &[i32], n: usize) -> Children
+    requires { ⌜ (length (now ws) ≡ 208) × (n ≤ 8) ⌝ }
+    ensures { λ r. ⌜ JudgesFrames (now (s .entry)) (now (places .entry)) (now (ws .entry)) n r ⌝ }
+{
+    let mut left = n;
+    let mut newest = true;
+    let mut free = true;
+    let mut sum: usize = 0;
+    while 0 < left {
+        left -= 1;
+        let at = 26 * left;
+        let end = at + 26;
+        let w = &ws[at..end];
+        if !frame(s, places, w) {
+            return Children::Bad;
+        }
+        if !follow(w, newest, free) {
+            return Children::Bad;
+        }
+        let promoted = number(w, 5);
+        newest = false;
+        free = free & (promoted == 0);
+        sum += promoted;
+    }
+    Children::Are(sum)
+}
+
+// Are the 209 words a thread of the table?
+fn thread(s: &[u8], places: &[u16; 656], t: &[i32]) -> Children
+    requires { ⌜ length (now t) ≡ 209 ⌝ }
+    ensures { λ r. ⌜ JudgesThread (now (s .entry)) (now (places .entry)) (now (t .entry)) r ⌝ }
+{
+    let n = number(t, 0);
+    if n == 0 {
+        return Children::Bad;
+    }
+    if 8 < n {
+        return Children::Bad;
+    }
+    let k = 1 + 26 * n;
+    if !zeros(&t[k..209]) {
+        return Children::Bad;
+    }
+    frames(s, places, &t[1..209], n)
+}
+
+// The first n of eight threads: are they one tree?
+fn trees(s: &[u8], places: &[u16; 656], ws: &[i32], n: usize) -> bool
+    requires { ⌜ (length (now ws) ≡ 1672) × (n ≤ 8) ⌝ }
+    ensures { λ r. ⌜ JudgesTrees (now (s .entry)) (now (places .entry)) (now (ws .entry)) n r ⌝ }
+{
+    let mut i = 0;
+    let mut demands: usize = 1;
+    while i < n {
+        if demands < 1 {
+            return false;
+        }
+        let at = 209 * i;
+        let end = at + 209;
+        let m = match thread(s, places, &ws[at..end]) {
+            Children::Are(m) => m,
+            Children::Bad => return false,
+        };
+        demands = m + (demands - 1);
+        i += 1;
+    }
+    demands == 0
+}
+
+// Are the words a pool of the table?
+pub fn is_pool(s: &[u8], places: &[u16; 656], ws: &[i32]) -> bool
+    ensures { λ r. ⌜ JudgesPool (now (s .entry)) (now (places .entry)) (now (ws .entry)) r ⌝ }
+{
+    if ws.len() != 1673 {
+        return false;
+    }
+    let n = number(ws, 0);
+    if 8 < n {
+        return false;
+    }
+    let k = 1 + 209 * n;
+    if !zeros(&ws[k..1673]) {
+        return false;
+    }
+    trees(s, places, &ws[1..1673], n)
+}

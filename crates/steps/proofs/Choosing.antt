@@ -1,0 +1,127 @@
+-- A choice on words is the model's choice, and the words are a pool of the table afterwards.
+use Prim.Native.Nat.{ℕ, zero, suc, _+_, _≤_, _<_}
+use mathlib.Core.Path.{_≡_, refl, ap, subst, _∙_}
+use mathlib.Core.Bool.{true, false}
+use mathlib.Core.List.{List, [], _∷_, _++_}
+use native.Mathlib.Omega.{arith}
+use lib.Dec.{ltb}
+use lib.IntN.{ℤ}
+use lib.ListN.{length, length-append}
+use Rattle.model.specs.Numbers as No
+use Rattle.model.specs.Syntax.{Program}
+use Rattle.model.specs.Limits.{Limits}
+use Rattle.model.specs.Pool.{Thread, Pool, mostThreads, wordsOf, trees, isPool}
+use Rattle.model.specs.Rules.{Result, step, promote, onThread, choice}
+use Rattle.model.specs.Calls.{made}
+use Rattle.model.proofs.Facts.{true-false}
+use Rattle.model.proofs.Valid.{IsPool, pool-facts}
+use Rattle.model.proofs.Words.{pool-fits, words-valid}
+use Rattle.model.proofs.Kept.{choice-kept}
+use Rattle.places.specs.Places.{Places}
+use Rattle.frames.specs.Held.{Held, ThreadAt}
+use Rattle.frames.specs.Edits.{threadsIn}
+use Rattle.frames.proofs.Steps.{threads-counted}
+use Rattle.steps.specs.declared.Made.{Made}
+use Rattle.steps.specs.declared.Made.the-variants.{Refused}
+use Rattle.steps.specs.Decision.{before}
+use Rattle.steps.specs.Choice.{Known, Comes, Steps, Promotes, Chose, Chooses}
+use Rattle.steps.proofs.Effects.{on-thread, on-none}
+
+-- a pool around its thread i
+pub record Around (p : Pool) (i : ℕ) : Type 0 where
+  pub front : Pool
+  pub thread : Thread
+  pub back : Pool
+  pub is : p ≡ front ++ thread ∷ back
+  pub place : length front ≡ i
+
+pub around : (p : Pool) (i : ℕ) → i < length p → Around p i
+around [] i h = absurd (omega arith)
+around (t ∷ p) zero h = record { front = []; thread = t; back = p; is = refl; place = refl }
+around (t ∷ p) (suc i) h =
+    let r = around p i (omega arith) in
+    record { front = t ∷ r .front; thread = r .thread; back = r .back; is = ap {B = Pool} (λ l. t ∷ l) (r .is); place = ap suc (r .place) }
+
+module _ (P : Program) (p : Pool) {ws : List ℤ} (w : ws ≡ wordsOf p) (v : isPool P p ≡ true) where
+  pub is-held : Held ws p
+  is-held = record { words = w; fits = pool-fits (pool-facts P p v) }
+
+  pub known-at : {s places : List ℕ} {i : ℕ} → Places s P places → (r : Around p i) → Known s places ws i P (r .front) (r .thread) (r .back)
+  known-at q r =
+      record {
+        table = q;
+        thread = record { held = subst (Held ws) (r .is) is-held; place = r .place };
+        valid = subst (IsPool P) (r .is) (pool-facts P p v);
+      }
+
+  pub some-thread : 0 < length p
+  unfolding trees
+  some-thread = go p (pool-facts P p v .tree)
+    where
+      go : (p : Pool) → trees 1 p ≡ true → 0 < length p
+      go [] e = true-false false e refl
+      go (t ∷ p) e = omega arith
+
+  pub pool-counted : threadsIn ws ≡ length p
+  pool-counted =
+      let r = around p 0 some-thread in
+      let h : ThreadAt ws 0 (r .front) (r .thread) (r .back) = record { held = subst (Held ws) (r .is) is-held; place = r .place } in
+      omega (arith, threads-counted h, ap length (r .is), length-append (r .front) (r .thread ∷ r .back))
+
+  -- what a choice comes to
+  comes-chose : {kind thread : ℕ} {r : Made} {ws′ : List ℤ} → Limits P → Comes ws (choice P p kind thread) r ws′ → Chose P p ws kind thread r ws′
+  unfolding made
+  comes-chose {kind} {thread} {r} {ws′} L h = go (choice P p kind thread) refl h
+    where
+      go : (x : Result) → choice P p kind thread ≡ x → Comes ws x r ws′ → Chose P p ws kind thread r ws′
+      go (Result.made rule p′) e c =
+          let y : ws′ ≡ wordsOf p′ = c .1 .words in
+          record {
+            called = rw (e, c .0, y);
+            valid = rw y (words-valid P p′ (choice-kept P L p p′ kind thread rule v e));
+          }
+      go (Result.refused n) e c = record { called = rw (e, c .0, c .1); valid = rw (c .1, w) (words-valid P p v) }
+
+choice-kind : (P : Program) (p : Pool) (kind i : ℕ) → 1 < kind → choice P p kind i ≡ Result.refused No.kind
+unfolding choice
+choice-kind P p zero i h = absurd (omega arith)
+choice-kind P p (suc zero) i h = absurd (omega arith)
+choice-kind P p (suc (suc kind)) i h = refl
+
+choice-none : (P : Program) (p : Pool) (kind i : ℕ) → kind ≤ 1 → length p ≤ i → choice P p kind i ≡ Result.refused No.thread
+unfolding choice
+choice-none P p zero i k h = on-none (step P) p i h
+choice-none P p (suc zero) i k h = on-none (promote P (ltb (length p) mostThreads)) p i h
+choice-none P p (suc (suc kind)) i k h = absurd (omega arith)
+
+module _ {s places : List ℕ} {ws : List ℤ} {kind thread : ℕ} where
+  pub chooses-kind : 1 < kind → Chooses s places ws kind thread (Refused No.kind) ws
+  chooses-kind h P p q w v = comes-chose P p w v (q .limits) (rw (choice-kind P p kind thread h) (refl, refl))
+
+  pub chooses-none : {m : ℕ} → kind ≤ 1 → m ≡ threadsIn ws → m ≤ thread → Chooses s places ws kind thread (Refused No.thread) ws
+  chooses-none k c h P p q w v =
+      comes-chose P p w v (q .limits) (rw (choice-none P p kind thread k (omega (arith, pool-counted P p w v))) (refl, refl))
+
+  module _ (r : Made) (ws′ : List ℤ) {m : ℕ} (c : m ≡ threadsIn ws) (h : thread < m) where
+    pub chooses-step : kind ≡ 0 → Steps s places ws thread r ws′ → Chooses s places ws kind thread r ws′
+    unfolding choice
+    chooses-step k f P p q w v =
+        let x = around p thread (omega (arith, pool-counted P p w v)) in
+        let e : choice P p kind thread ≡ before (x .front) (step P (x .thread) (x .back)) =
+        ap (λ (k : ℕ). choice P p k thread) k
+        ∙ ap (λ (p : Pool). onThread (step P) p thread) (x .is)
+        ∙ on-thread (step P) (x .front) (x .thread) (x .back) thread (x .place)
+        in
+        comes-chose P p w v (q .limits) (rw e (f P (x .front) (x .thread) (x .back) (known-at P p w v q x)))
+
+    pub chooses-promote : kind ≡ 1 → Promotes s places ws thread r ws′ → Chooses s places ws kind thread r ws′
+    unfolding choice
+    chooses-promote k f P p q w v =
+        let x = around p thread (omega (arith, pool-counted P p w v)) in
+        let e : choice P p kind thread
+        ≡ before (x .front) (promote P (ltb (length (x .front ++ x .thread ∷ x .back)) mostThreads) (x .thread) (x .back)) =
+        ap (λ (k : ℕ). choice P p k thread) k
+        ∙ ap (λ (p : Pool). onThread (promote P (ltb (length p) mostThreads)) p thread) (x .is)
+        ∙ on-thread (promote P (ltb (length (x .front ++ x .thread ∷ x .back)) mostThreads)) (x .front) (x .thread) (x .back) thread (x .place)
+        in
+        comes-chose P p w v (q .limits) (rw e (f P (x .front) (x .thread) (x .back) (known-at P p w v q x)))
