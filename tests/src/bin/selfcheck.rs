@@ -1,0 +1,548 @@
+//! Puts the generators' inputs to the implementation and asserts what must
+//! hold of it: `selfcheck SEED COUNT`.
+
+use oracle::encode::encode;
+use oracle::gen::faults::{self, Kind, Planted};
+use oracle::gen::schedules::{guided_choice, Choice, Policy};
+use oracle::gen::{bytes, programs, scenario, Scenario};
+use oracle::machine::{differences, Oracle};
+use oracle::pool::{Pool, Thread};
+use oracle::rng::Rng;
+use oracle::rules::{self, ended, transfer, Rule, PROMOTE, STEP};
+use oracle::table::{Program, Transfer, TABLE_MAX};
+use oracle::{Refusal, POOL_WORDS};
+use std::collections::BTreeMap;
+use std::env;
+use std::process::ExitCode;
+
+fn main() -> ExitCode {
+    let numbers: Vec<u64> = env::args()
+        .skip(1)
+        .filter_map(|text| text.parse().ok())
+        .collect();
+    let &[seed, count] = numbers.as_slice() else {
+        eprintln!("usage: selfcheck SEED COUNT");
+        return ExitCode::FAILURE;
+    };
+    let mut tally = Tally::new(seed);
+    for round in 0..count {
+        tally.round = round;
+        check_round(&mut tally);
+    }
+    tally.finish()
+}
+
+/// One round: an accepted table and its run, planted faults, spoiled bytes and
+/// scenarios, all from the seed and the round's number.
+fn check_round(tally: &mut Tally) {
+    let mut rng = Rng::new(Rng::new(tally.seed).bits() ^ Rng::new(tally.round).bits());
+    let program = accepted_program(&mut rng, tally.round);
+    check_accepted(tally, &program);
+    check_run(tally, &mut rng, &program);
+    for _ in 0..4 {
+        check_one_fault(tally, &mut rng, &program);
+        check_two_faults(tally, &mut rng, &program);
+        check_bytes(tally, &mut rng, &program);
+    }
+    for _ in 0..3 {
+        let input = scenario(&mut rng);
+        check_scenario(tally, &input);
+        if tally.round.is_multiple_of(10) {
+            let found = differences(&Oracle, &input);
+            tally.expect(found.is_empty(), || format!("{found:?}"));
+        }
+    }
+}
+
+/// Well-formed programs, some of an exact size up to the largest.
+fn accepted_program(rng: &mut Rng, round: u64) -> Program {
+    match round % 50 {
+        7 => programs::well_formed_of_size(rng, TABLE_MAX),
+        17 => programs::well_formed_of_size(rng, TABLE_MAX - 1),
+        27 => {
+            let size = rng.between(3_000, TABLE_MAX);
+            programs::well_formed_of_size(rng, size)
+        }
+        _ => programs::well_formed(rng),
+    }
+}
+
+/// Counts of what passed, failed and occurred.
+struct Tally {
+    seed: u64,
+    round: u64,
+    passed: u64,
+    failed: u64,
+    refusals: [u64; 22],
+    rules: [u64; 11],
+    /// What else must occur, by name.
+    events: BTreeMap<String, u64>,
+}
+
+impl Tally {
+    fn new(seed: u64) -> Self {
+        let mut events = BTreeMap::new();
+        for count in 0..=4 {
+            events.insert(format!("join of {count} values"), 0);
+        }
+        for kind in Kind::ALL {
+            events.insert(format!("fault {kind:?}"), 0);
+        }
+        for name in [
+            "pool of 8 threads",
+            "promotion in a promoted thread",
+            "promotion in an older frame",
+            "four open calls in a frame",
+            "stack of 8 frames",
+            "run that returned",
+            "table of 16384 bytes",
+            "schedule of 50 made",
+            "two faults in a transfer",
+        ] {
+            events.insert(name.to_string(), 0);
+        }
+        Tally {
+            seed,
+            round: 0,
+            passed: 0,
+            failed: 0,
+            refusals: [0; 22],
+            rules: [0; 11],
+            events,
+        }
+    }
+
+    /// Counts one assertion and shows the first that fail.
+    fn expect(&mut self, holds: bool, what: impl FnOnce() -> String) {
+        if holds {
+            self.passed += 1;
+        } else {
+            self.failed += 1;
+            if self.failed <= 20 {
+                println!("failed in round {}: {}", self.round, what());
+            }
+        }
+    }
+
+    fn refusal(&mut self, refusal: &Refusal) {
+        self.refusals[usize::from(refusal.number)] += 1;
+    }
+
+    fn answer(&mut self, answer: &Result<Rule, u8>) {
+        match answer {
+            Ok(rule) => self.rules[usize::from(rule.number())] += 1,
+            Err(number) => self.refusals[usize::from(*number)] += 1,
+        }
+    }
+
+    fn event(&mut self, name: &str) {
+        *self.events.entry(name.to_string()).or_insert(0) += 1;
+    }
+
+    /// Prints the counts; what never occurred is a failure.
+    fn finish(mut self) -> ExitCode {
+        let mut counts: Vec<(String, u64)> = Vec::new();
+        for rule in Rule::ALL {
+            let count = self.rules[usize::from(rule.number())];
+            counts.push((format!("rule {} {}", rule.number(), rule.name()), count));
+        }
+        for number in 1..=21 {
+            counts.push((format!("refusal {number}"), self.refusals[number]));
+        }
+        counts.extend(self.events.clone());
+        for (name, count) in counts {
+            println!("{name}: {count}");
+            self.expect(count > 0, || format!("{name} never occurs"));
+        }
+        println!("selfcheck: {} passed, {} failed", self.passed, self.failed);
+        if self.failed == 0 {
+            ExitCode::SUCCESS
+        } else {
+            ExitCode::FAILURE
+        }
+    }
+}
+
+/// The table of a well-formed program reads back and is accepted.
+fn check_accepted(tally: &mut Tally, program: &Program) {
+    let table = encode(program);
+    if table.len() == TABLE_MAX {
+        tally.event("table of 16384 bytes");
+    }
+    let read = oracle::read(&table);
+    tally.expect(read.as_ref() == Ok(program), || {
+        format!("a table of {} bytes does not read back", table.len())
+    });
+    let checked = oracle::check(&table);
+    tally.expect(checked.is_ok(), || format!("not accepted: {checked:?}"));
+}
+
+/// A random run of an accepted table, made and refused choices: the words of
+/// demand 3 hold before and after every choice.
+fn check_run(tally: &mut Tally, rng: &mut Rng, program: &Program) {
+    let table = encode(program);
+    let mut words = vec![-1; POOL_WORDS];
+    let started = oracle::start(&table, &mut words);
+    tally.expect(started.is_ok(), || format!("no start: {started:?}"));
+    let mut pool = Pool::start();
+    let policy = Policy::random(rng);
+    check_progress(tally, program, &pool);
+    let mut left = rng.one_of([20, 100, 400]);
+    while left > 0 {
+        left -= 1;
+        let choice = guided_choice(rng, program, &pool, policy);
+        check_join(tally, program, &mut pool, choice);
+        let before = pool.clone();
+        let answer = rules::choose(program, &mut pool, choice.0, choice.1);
+        tally.answer(&answer);
+        check_answer(tally, program, &before, &pool, choice, &answer);
+        tally.expect(answer != Err(19), || format!("{choice:?} is stuck"));
+        check_progress(tally, program, &pool);
+        if table.len() < 600 || rng.chance(5) {
+            let by_words = oracle::choose(&table, &mut words, choice.0, choice.1);
+            let same = by_words.map_err(|refusal| refusal.number) == answer;
+            tally.expect(same, || format!("{choice:?}: {by_words:?}, not {answer:?}"));
+        }
+        tally.expect(table.len() >= 600 || words == pool.to_words(), || {
+            format!("words differ after {choice:?}")
+        });
+        words = pool.to_words();
+        note_pool(tally, &pool);
+        if ended(program, &pool.root).is_some() {
+            left = left.min(3);
+        }
+    }
+    if ended(program, &pool.root).is_some() {
+        tally.event("run that returned");
+    }
+}
+
+/// Some thread can step, or is at a call with all frames in use, or main has
+/// returned as many values as declared.
+fn check_progress(tally: &mut Tally, program: &Program, pool: &Pool) {
+    let values = ended(program, &pool.root);
+    let declared = usize::from(program.functions[0].returns);
+    let returned = values.as_ref().is_some_and(|v| v.len() == declared);
+    let steps = !rules::steppable(program, pool).is_empty();
+    let full = || {
+        (0..pool.size())
+            .any(|t| rules::choose(program, &mut pool.clone(), STEP, t as u64) == Err(18))
+    };
+    tally.expect(returned || steps || full(), || {
+        format!("no progress: {pool:?}")
+    });
+    tally.expect(values.is_none() || returned, || {
+        format!("main gives {values:?}, not {declared} values")
+    });
+}
+
+/// A join brings as many values as the block behind it takes.
+fn check_join(tally: &mut Tally, program: &Program, pool: &mut Pool, (kind, thread): Choice) {
+    let thread = usize::try_from(thread).ok().filter(|_| kind == STEP);
+    let Some(parent) = thread.and_then(|number| pool.thread_mut(number)) else {
+        return;
+    };
+    if let Some((brought, taken)) = join(program, parent) {
+        tally.expect(taken == Some(brought), || {
+            format!("a join brings {brought} values to a block of {taken:?}")
+        });
+        tally.event(&format!("join of {brought} values"));
+    }
+}
+
+/// What a thread's join brings and what the promoted block takes, if the
+/// thread is at a promoted spoin and its newest child is ended.
+fn join(program: &Program, thread: &Thread) -> Option<(usize, Option<usize>)> {
+    let frame = thread.current();
+    let Some(Transfer::Spoin { promoted, .. }) = transfer(program, thread) else {
+        return None;
+    };
+    if frame.calls.is_empty() || frame.has_unpromoted() {
+        return None;
+    }
+    let child = thread.children.last()?;
+    ended(program, child)?;
+    let Some(Transfer::Return { arguments }) = transfer(program, child) else {
+        return None;
+    };
+    let block = program.functions[frame.function].block(*promoted);
+    Some((arguments.len(), block.map(|b| b.parameters.len())))
+}
+
+/// What every answer to a choice must be: a refusal changes nothing, a rule
+/// leaves a valid pool of the right size.
+fn check_answer(
+    tally: &mut Tally,
+    program: &Program,
+    before: &Pool,
+    after: &Pool,
+    (kind, thread): Choice,
+    answer: &Result<Rule, u8>,
+) {
+    let absent = thread >= before.size() as u64;
+    let fits = match (kind, answer) {
+        (STEP, Ok(rule)) => *rule != Rule::Promote,
+        (PROMOTE, Ok(rule)) => *rule == Rule::Promote,
+        (STEP | PROMOTE, Err(number)) if absent => *number == 15,
+        (STEP, Err(number)) => (16..=19).contains(number),
+        (PROMOTE, Err(number)) => (19..=21).contains(number),
+        (_, answer) => *answer == Err(14),
+    };
+    tally.expect(fits, || format!("({kind}, {thread}) gets {answer:?}"));
+    let Ok(rule) = answer else {
+        tally.expect(before == after, || "a refusal changed the pool".to_string());
+        return;
+    };
+    let decoded = Pool::from_words(program, &after.to_words());
+    tally.expect(decoded.as_ref() == Ok(after), || {
+        format!("{rule:?} leaves no valid pool: {after:?}")
+    });
+    let (threads, frames) = match rule {
+        Rule::Promote => (1, 1),
+        Rule::Prom => (-1, -1),
+        Rule::Call => (0, 1),
+        Rule::Return => (0, -1),
+        _ => (0, 0),
+    };
+    let grown = (
+        after.size() as i32 - before.size() as i32,
+        frame_count(after) - frame_count(before),
+    );
+    tally.expect(grown == (threads, frames), || {
+        format!("{rule:?} grows threads and frames by {grown:?}")
+    });
+}
+
+fn frame_count(pool: &Pool) -> i32 {
+    pool.threads().iter().map(|t| t.frames.len() as i32).sum()
+}
+
+/// Counts what a run reaches.
+fn note_pool(tally: &mut Tally, pool: &Pool) {
+    let threads = pool.threads();
+    if threads.len() == 8 {
+        tally.event("pool of 8 threads");
+    }
+    if threads[1..]
+        .iter()
+        .any(|thread| !thread.children.is_empty())
+    {
+        tally.event("promotion in a promoted thread");
+    }
+    for thread in &threads {
+        let (_, older) = thread.frames.split_last().expect("a thread has a frame");
+        if older.iter().any(|frame| frame.promoted > 0) {
+            tally.event("promotion in an older frame");
+        }
+        if thread.frames.iter().any(|frame| frame.calls.len() == 4) {
+            tally.event("four open calls in a frame");
+        }
+        if thread.frames.len() == 8 {
+            tally.event("stack of 8 frames");
+        }
+    }
+}
+
+/// One planted fault is found at its place.
+fn check_one_fault(tally: &mut Tally, rng: &mut Rng, program: &Program) {
+    let mut program = program.clone();
+    let kind = rng.one_of(Kind::ALL);
+    if let Some(planted) = faults::plant(rng, &mut program, kind) {
+        expect_fault(tally, &program, &[planted]);
+        tally.event(&format!("fault {kind:?}"));
+    }
+}
+
+/// Of two planted faults the first in the order is found.
+fn check_two_faults(tally: &mut Tally, rng: &mut Rng, program: &Program) {
+    let (program, one, two) = if rng.chance(60) {
+        match faults::plant_pair(rng, program) {
+            Some(planted) => planted,
+            None => return,
+        }
+    } else {
+        let mut program = program.clone();
+        let one = faults::plant_any(rng, &mut program);
+        let two = faults::plant_any(rng, &mut program);
+        (program, one, two)
+    };
+    if undone(&one, &two) {
+        return;
+    }
+    if one.same_block(&two) && one.in_transfer() && two.in_transfer() {
+        expect_fault(tally, &program, &[one, two]);
+        tally.event("two faults in a transfer");
+    } else if one.key < two.key {
+        expect_fault(tally, &program, &[one]);
+    } else {
+        expect_fault(tally, &program, &[two]);
+    }
+}
+
+/// Whether the second fault may have undone the first: they are the same, or
+/// both in one phase of a transfer, or the second adds a block that the first
+/// names as missing.
+fn undone(one: &Planted, two: &Planted) -> bool {
+    let adds = matches!(
+        two.kind,
+        Kind::TargetCount | Kind::TargetNesting | Kind::TargetScope
+    );
+    one.key == two.key
+        || (one.in_transfer() && one.key[..4] == two.key[..4])
+        || (one.kind == Kind::TransferName && adds && one.key[0] == two.key[0])
+}
+
+/// The check gives one of these faults.
+fn expect_fault(tally: &mut Tally, program: &Program, planted: &[Planted]) {
+    let table = encode(program);
+    if table.len() > TABLE_MAX {
+        return;
+    }
+    let refusal = oracle::check(&table).err();
+    if let Some(refusal) = &refusal {
+        tally.refusal(refusal);
+    }
+    let found = planted.iter().any(|fault| Some(fault.refusal) == refusal);
+    tally.expect(found, || format!("{planted:?} planted, {refusal:?} given"));
+}
+
+/// Spoiled bytes get the refusal known beforehand.
+fn check_bytes(tally: &mut Tally, rng: &mut Rng, program: &Program) {
+    let (table, known) = bytes::spoiled(rng, program);
+    let refusal = oracle::read(&table).err();
+    if let Some(refusal) = &refusal {
+        tally.refusal(refusal);
+    }
+    tally.expect(known.is_none() || known == refusal, || {
+        format!("{known:?} due, {refusal:?} given")
+    });
+    let checked = oracle::check(&table).err();
+    tally.expect(refusal.is_none() || checked == refusal, || {
+        format!("read gives {refusal:?}, check {checked:?}")
+    });
+}
+
+/// All calls on one scenario agree with each other and keep their promises.
+fn check_scenario(tally: &mut Tally, input: &Scenario) {
+    check_start(tally, input);
+    match decode(input) {
+        Err(refusal) => check_undecoded(tally, input, refusal),
+        Ok((program, pool)) => {
+            check_questions(tally, input, &program, &pool);
+            check_choices(tally, input, &program, &pool);
+            check_schedule(tally, input);
+        }
+    }
+}
+
+fn decode(input: &Scenario) -> Result<(Program, Pool), Refusal> {
+    let program = oracle::read(&input.table)?;
+    let pool = Pool::from_words(&program, &input.words)?;
+    Ok((program, pool))
+}
+
+fn check_start(tally: &mut Tally, input: &Scenario) {
+    let mut words = input.words.clone();
+    let started = oracle::start(&input.table, &mut words);
+    let due = match oracle::read(&input.table) {
+        Err(refusal) => Err(refusal),
+        Ok(_) if input.words.len() != POOL_WORDS => Err(Refusal::plain(12)),
+        Ok(_) => Ok(()),
+    };
+    tally.expect(started == due, || format!("start gives {started:?}"));
+    let fits = match started {
+        Err(_) => words == input.words,
+        Ok(()) => words[..2] == [1, 1] && words[2..].iter().all(|&word| word == 0),
+    };
+    tally.expect(fits, || "start leaves other words".to_string());
+}
+
+/// Every call on a table or words that are none gets the same refusal.
+fn check_undecoded(tally: &mut Tally, input: &Scenario, refusal: Refusal) {
+    tally.refusal(&refusal);
+    let mut words = input.words.clone();
+    let given = [
+        oracle::choose(&input.table, &mut words, 0, 0).err(),
+        oracle::choose(&input.table, &mut words, 2, 9).err(),
+        oracle::steppable(&input.table, &words).err(),
+        oracle::values(&input.table, &words).err(),
+        oracle::schedule(&input.table, &mut words, &[]).1,
+        oracle::schedule(&input.table, &mut words, &input.choices).1,
+    ];
+    let same = given.iter().all(|other| *other == Some(refusal));
+    tally.expect(same, || format!("{refusal:?} due, {given:?} given"));
+    tally.expect(words == input.words, || {
+        "a refusal changed the words".to_string()
+    });
+}
+
+/// The two questions agree with the steps themselves.
+fn check_questions(tally: &mut Tally, input: &Scenario, program: &Program, pool: &Pool) {
+    tally.expect(pool.to_words() == input.words, || {
+        "words do not come back".to_string()
+    });
+    let step = |t: usize| rules::choose(program, &mut pool.clone(), STEP, t as u64);
+    let stepping: Vec<usize> = (0..pool.size()).filter(|&t| step(t).is_ok()).collect();
+    let given = oracle::steppable(&input.table, &input.words);
+    tally.expect(given == Ok(stepping.clone()), || {
+        format!("{stepping:?} can step, {given:?} given")
+    });
+    let values = oracle::values(&input.table, &input.words);
+    let is_given = matches!(values, Ok(Some(_)));
+    tally.expect(is_given == (step(0) == Err(16)), || {
+        format!("values {values:?} beside {:?}", step(0))
+    });
+    tally.expect(!is_given || pool.size() == 1, || {
+        "ended main is not alone".to_string()
+    });
+}
+
+/// Every choice of a small kind and thread, and those of the schedule.
+fn check_choices(tally: &mut Tally, input: &Scenario, program: &Program, pool: &Pool) {
+    let mut choices: Vec<Choice> = input.choices.iter().copied().take(6).collect();
+    for thread in 0..=pool.size() as u64 {
+        choices.extend([(STEP, thread), (PROMOTE, thread)]);
+    }
+    choices.extend([(2, 0), (1 << 32, 0), (2, 8), (STEP, 1 << 32)]);
+    for choice in choices {
+        let mut words = input.words.clone();
+        let answer = oracle::choose(&input.table, &mut words, choice.0, choice.1)
+            .map_err(|refusal| refusal.number);
+        tally.answer(&answer);
+        let after = match Pool::from_words(program, &words) {
+            Ok(after) => after,
+            Err(refusal) => {
+                tally.expect(false, || format!("{choice:?} leaves {refusal:?}"));
+                continue;
+            }
+        };
+        tally.expect(answer.is_ok() || words == input.words, || {
+            format!("{choice:?}: a refusal changed the words")
+        });
+        check_answer(tally, program, pool, &after, choice, &answer);
+    }
+}
+
+/// A schedule is its choices one after another up to the first refusal.
+fn check_schedule(tally: &mut Tally, input: &Scenario) {
+    let mut one_by_one = input.words.clone();
+    let mut due = (0, None);
+    for &(kind, thread) in &input.choices {
+        match oracle::choose(&input.table, &mut one_by_one, kind, thread) {
+            Ok(_) => due.0 += 1,
+            Err(refusal) => {
+                due.1 = Some(refusal);
+                break;
+            }
+        }
+    }
+    let mut words = input.words.clone();
+    let given = oracle::schedule(&input.table, &mut words, &input.choices);
+    tally.expect(given == due, || format!("{due:?} due, {given:?} given"));
+    tally.expect(words == one_by_one, || {
+        "a schedule leaves other words than its choices".to_string()
+    });
+    if given.0 >= 50 {
+        tally.event("schedule of 50 made");
+    }
+}

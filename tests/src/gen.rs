@@ -1,0 +1,11 @@
+//! Generators of tables, pools and schedules; all are functions over a seeded
+//! generator, so that another implementation can be put to the same inputs.
+
+pub mod bytes;
+pub mod faults;
+pub mod pools;
+pub mod programs;
+pub mod scenario;
+pub mod schedules;
+
+pub use scenario::{scenario, Scenario, Source};

@@ -1,0 +1,128 @@
+//! Whole inputs: a table, the words of a pool and a schedule.
+
+use crate::encode::encode;
+use crate::gen::schedules::{blind_schedule, guided_schedule, Choice};
+use crate::gen::{bytes, faults, pools, programs};
+use crate::pool::{Pool, POOL_WORDS};
+use crate::rng::Rng;
+use crate::table::{Program, TABLE_MAX};
+
+/// Where a scenario's table comes from.
+#[derive(Clone, Copy, Debug, PartialEq, Eq)]
+pub enum Source {
+    /// Well formed.
+    Accepted,
+    /// Well formed but for one or two planted faults.
+    Faulty,
+    /// Names and counts at random.
+    Loose,
+    /// Bytes cut, stretched or mutated.
+    Spoiled,
+}
+
+/// An input for every call.
+#[derive(Clone, Debug)]
+pub struct Scenario {
+    pub source: Source,
+    pub table: Vec<u8>,
+    /// More tables, faulty or spoiled, to be read and checked only.
+    pub more_tables: Vec<Vec<u8>>,
+    pub words: Vec<i32>,
+    pub choices: Vec<Choice>,
+}
+
+/// A scenario of any kind; tables may get any of 1 to 11, words 12 and 13.
+pub fn scenario(rng: &mut Rng) -> Scenario {
+    let source = rng.one_of([
+        Source::Accepted,
+        Source::Accepted,
+        Source::Faulty,
+        Source::Loose,
+        Source::Loose,
+        Source::Spoiled,
+    ]);
+    let program = match source {
+        Source::Accepted | Source::Spoiled => programs::well_formed(rng),
+        Source::Faulty => faulty(rng),
+        Source::Loose => programs::loose(rng),
+    };
+    let (pool, choices) = pool_and_choices(rng, &program);
+    let more_tables = faulty_tables(rng, &program);
+    let table = match source {
+        Source::Spoiled => bytes::spoiled(rng, &program).0,
+        _ => encode(&program),
+    };
+    Scenario {
+        source,
+        table,
+        more_tables,
+        words: spoil_some(rng, &program, pool),
+        choices,
+    }
+}
+
+/// A program with one or two faults.
+pub fn faulty(rng: &mut Rng) -> Program {
+    loop {
+        let mut program = programs::well_formed(rng);
+        faults::plant_any(rng, &mut program);
+        if rng.chance(50) {
+            faults::plant_any(rng, &mut program);
+        }
+        if encode(&program).len() <= TABLE_MAX {
+            return program;
+        }
+    }
+}
+
+/// Tables of a program with faults: one, two in a block, some, or spoiled.
+pub fn faulty_tables(rng: &mut Rng, program: &Program) -> Vec<Vec<u8>> {
+    let mut tables = Vec::new();
+    for _ in 0..4 {
+        let mut one = program.clone();
+        faults::plant_any(rng, &mut one);
+        tables.push(encode(&one));
+        faults::plant_any(rng, &mut one);
+        tables.push(encode(&one));
+        if let Some((pair, ..)) = faults::plant_pair(rng, program) {
+            tables.push(encode(&pair));
+        }
+        tables.push(bytes::spoiled(rng, program).0);
+    }
+    tables
+}
+
+/// A pool at the start, reached or loose, and a schedule for it.
+fn pool_and_choices(rng: &mut Rng, program: &Program) -> (Pool, Vec<Choice>) {
+    let length = rng.below(60);
+    let pool = match rng.below(4) {
+        0 => Pool::start(),
+        1 => pools::reached(rng, program, length),
+        _ => pools::loose(rng, program),
+    };
+    let choices = if rng.chance(60) {
+        let length = rng.one_of([0, 1, 4, 30, 120]);
+        let refused = rng.chance(70);
+        guided_schedule(rng, program, &pool, length, refused)
+    } else {
+        blind_schedule(rng)
+    };
+    (pool, choices)
+}
+
+/// Words kept, changed in some places, of another length or arbitrary.
+fn spoil_some(rng: &mut Rng, program: &Program, mut pool: Pool) -> Vec<i32> {
+    let what = rng.below(20);
+    if what < 4 {
+        pools::spoil(rng, program, &mut pool);
+    }
+    let mut words = pool.to_words();
+    match what {
+        3..=6 => pools::change_word(rng, &mut words),
+        7 => pools::fill_unused(rng, &pool, &mut words),
+        8 => return pools::arbitrary(rng),
+        9 => words.resize(rng.one_of([0, 1, POOL_WORDS - 1, POOL_WORDS + 1]), 0),
+        _ => {}
+    }
+    words
+}

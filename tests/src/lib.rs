@@ -1,0 +1,85 @@
+//! A second implementation of Spork IR tables and the pool that runs them.
+//!
+//! The table is decoded to a tree of owned values and the pool to a tree of
+//! threads; every call decodes, works on the trees and encodes again. A refusal
+//! leaves the lent words as they were.
+
+pub mod check;
+pub mod encode;
+pub mod gen;
+pub mod machine;
+pub mod pool;
+pub mod refusal;
+pub mod rng;
+pub mod rules;
+pub mod runner;
+pub mod table;
+
+pub use check::check;
+pub use pool::{Pool, POOL_WORDS};
+pub use refusal::{Place, Refusal};
+pub use rules::Rule;
+pub use table::{read, Program};
+
+/// Writes the start of a table's main into 1,673 words; refusals 1 to 3 and 12.
+pub fn start(table: &[u8], pool: &mut [i32]) -> Result<(), Refusal> {
+    read(table)?;
+    if pool.len() != POOL_WORDS {
+        return Err(Refusal::plain(12));
+    }
+    pool.copy_from_slice(&Pool::start().to_words());
+    Ok(())
+}
+
+/// Makes one choice.
+pub fn choose(table: &[u8], pool: &mut [i32], kind: u64, thread: u64) -> Result<Rule, Refusal> {
+    let (program, mut tree) = decode(table, pool)?;
+    let rule = rules::choose(&program, &mut tree, kind, thread).map_err(Refusal::plain)?;
+    pool.copy_from_slice(&tree.to_words());
+    Ok(rule)
+}
+
+/// Every thread whose step makes a rule.
+pub fn steppable(table: &[u8], pool: &[i32]) -> Result<Vec<usize>, Refusal> {
+    let (program, tree) = decode(table, pool)?;
+    Ok(rules::steppable(&program, &tree))
+}
+
+/// Main's values, if thread 0 is ended.
+pub fn values(table: &[u8], pool: &[i32]) -> Result<Option<Vec<i32>>, Refusal> {
+    let (program, tree) = decode(table, pool)?;
+    Ok(rules::ended(&program, &tree.root))
+}
+
+/// Makes choices up to the first refusal; gives how many were made and the
+/// refusal, if any.
+pub fn schedule(
+    table: &[u8],
+    pool: &mut [i32],
+    choices: &[(u64, u64)],
+) -> (usize, Option<Refusal>) {
+    let (program, mut tree) = match decode(table, pool) {
+        Ok(decoded) => decoded,
+        Err(refusal) => return (0, Some(refusal)),
+    };
+    let mut made = 0;
+    let mut refusal = None;
+    for &(kind, thread) in choices {
+        match rules::choose(&program, &mut tree, kind, thread) {
+            Ok(_) => made += 1,
+            Err(number) => {
+                refusal = Some(Refusal::plain(number));
+                break;
+            }
+        }
+    }
+    pool.copy_from_slice(&tree.to_words());
+    (made, refusal)
+}
+
+/// The program and the pool that a table and words hold; 1 to 3, 12 and 13.
+fn decode(table: &[u8], pool: &[i32]) -> Result<(Program, Pool), Refusal> {
+    let program = read(table)?;
+    let tree = Pool::from_words(&program, pool)?;
+    Ok((program, tree))
+}

@@ -1,0 +1,186 @@
+//! Another implementation put to the same inputs as this one.
+
+use crate::gen::schedules::Choice;
+use crate::gen::Scenario;
+use crate::refusal::Refusal;
+use crate::rules::{PROMOTE, STEP};
+
+/// The calls of an implementation. Rules are their numbers; "which thread can
+/// step" gives any one thread.
+pub trait Machine {
+    fn read(&self, table: &[u8]) -> Result<(), Refusal>;
+    fn check(&self, table: &[u8]) -> Result<(), Refusal>;
+    fn start(&self, table: &[u8], pool: &mut [i32]) -> Result<(), Refusal>;
+    fn choose(&self, table: &[u8], pool: &mut [i32], kind: u64, thread: u64)
+        -> Result<u8, Refusal>;
+    fn can_step(&self, table: &[u8], pool: &[i32]) -> Result<Option<usize>, Refusal>;
+    fn values(&self, table: &[u8], pool: &[i32]) -> Result<Option<Vec<i32>>, Refusal>;
+    fn schedule(
+        &self,
+        table: &[u8],
+        pool: &mut [i32],
+        choices: &[Choice],
+    ) -> (usize, Option<Refusal>);
+
+    /// The largest kind or thread the implementation takes.
+    fn widest(&self) -> u64 {
+        u64::MAX
+    }
+}
+
+/// This implementation.
+pub struct Oracle;
+
+impl Machine for Oracle {
+    fn read(&self, table: &[u8]) -> Result<(), Refusal> {
+        crate::read(table).map(|_| ())
+    }
+
+    fn check(&self, table: &[u8]) -> Result<(), Refusal> {
+        crate::check(table)
+    }
+
+    fn start(&self, table: &[u8], pool: &mut [i32]) -> Result<(), Refusal> {
+        crate::start(table, pool)
+    }
+
+    fn choose(
+        &self,
+        table: &[u8],
+        pool: &mut [i32],
+        kind: u64,
+        thread: u64,
+    ) -> Result<u8, Refusal> {
+        crate::choose(table, pool, kind, thread).map(|rule| rule.number())
+    }
+
+    fn can_step(&self, table: &[u8], pool: &[i32]) -> Result<Option<usize>, Refusal> {
+        crate::steppable(table, pool).map(|threads| threads.first().copied())
+    }
+
+    fn values(&self, table: &[u8], pool: &[i32]) -> Result<Option<Vec<i32>>, Refusal> {
+        crate::values(table, pool)
+    }
+
+    fn schedule(
+        &self,
+        table: &[u8],
+        pool: &mut [i32],
+        choices: &[Choice],
+    ) -> (usize, Option<Refusal>) {
+        crate::schedule(table, pool, choices)
+    }
+}
+
+/// Puts a scenario to every call of a machine and of the oracle; gives each
+/// difference. Places are compared for reading and checking alone.
+pub fn differences(machine: &dyn Machine, input: &Scenario) -> Vec<String> {
+    let mut found = tables_differ(machine, &input.table);
+    for table in &input.more_tables {
+        found.extend(tables_differ(machine, table));
+    }
+    found.extend(start_differs(machine, input));
+    found.extend(questions_differ(machine, &input.table, &input.words));
+    let choices = within(machine, &input.choices);
+    for &choice in choices.iter().take(6).chain(&small_choices()) {
+        found.extend(choice_differs(machine, input, choice));
+    }
+    found.extend(schedule_differs(machine, input, &choices));
+    found
+}
+
+/// Reading and checking, refusals with their places.
+pub fn tables_differ(machine: &dyn Machine, table: &[u8]) -> Vec<String> {
+    [
+        differs("read", machine.read(table), Oracle.read(table)),
+        differs("check", machine.check(table), Oracle.check(table)),
+    ]
+    .into_iter()
+    .flatten()
+    .collect()
+}
+
+/// Says what was given and what is right, where they differ.
+fn differs<T: PartialEq + std::fmt::Debug>(what: &str, given: T, right: T) -> Option<String> {
+    (given != right).then(|| format!("{what}: {given:?} given, {right:?} right"))
+}
+
+/// A refusal by its number alone.
+fn number<T>(answer: Result<T, Refusal>) -> Result<T, u8> {
+    answer.map_err(|refusal| refusal.number)
+}
+
+fn start_differs(machine: &dyn Machine, input: &Scenario) -> Option<String> {
+    let mut given = input.words.clone();
+    let mut right = input.words.clone();
+    let answer = number(machine.start(&input.table, &mut given));
+    let due = number(Oracle.start(&input.table, &mut right));
+    differs("start", answer, due).or_else(|| words_differ("start", &given, &right))
+}
+
+/// The first word that differs.
+fn words_differ(what: &str, given: &[i32], right: &[i32]) -> Option<String> {
+    let at = given.iter().zip(right).position(|(a, b)| a != b)?;
+    Some(format!(
+        "{what}: word {at} is {}, {} is right",
+        given[at], right[at]
+    ))
+}
+
+/// Main's values, and that a thread said to step can step.
+fn questions_differ(machine: &dyn Machine, table: &[u8], words: &[i32]) -> Vec<String> {
+    let values = differs(
+        "values",
+        number(machine.values(table, words)),
+        number(Oracle.values(table, words)),
+    );
+    let given = number(machine.can_step(table, words));
+    let right = number(crate::steppable(table, words));
+    let fits = match (&given, &right) {
+        (Ok(Some(thread)), Ok(threads)) => threads.contains(thread),
+        (Ok(None), Ok(threads)) => threads.is_empty(),
+        (Err(given), Err(right)) => given == right,
+        _ => false,
+    };
+    let steps = (!fits).then(|| format!("can step: {given:?} given, one of {right:?} right"));
+    values.into_iter().chain(steps).collect()
+}
+
+/// Both kinds for every thread there may be, and what is no choice.
+fn small_choices() -> Vec<Choice> {
+    (0..=8)
+        .flat_map(|thread| [(STEP, thread), (PROMOTE, thread)])
+        .chain([(2, 0), (255, 255)])
+        .collect()
+}
+
+/// Choices cut to what the machine takes.
+fn within(machine: &dyn Machine, choices: &[Choice]) -> Vec<Choice> {
+    let widest = machine.widest();
+    choices
+        .iter()
+        .map(|&(kind, thread)| (kind.min(widest), thread.min(widest)))
+        .collect()
+}
+
+fn choice_differs(
+    machine: &dyn Machine,
+    input: &Scenario,
+    (kind, thread): Choice,
+) -> Option<String> {
+    let what = format!("choice {kind} {thread}");
+    let mut given = input.words.clone();
+    let mut right = input.words.clone();
+    let answer = number(machine.choose(&input.table, &mut given, kind, thread));
+    let due = number(Oracle.choose(&input.table, &mut right, kind, thread));
+    differs(&what, answer, due).or_else(|| words_differ(&what, &given, &right))
+}
+
+fn schedule_differs(machine: &dyn Machine, input: &Scenario, choices: &[Choice]) -> Option<String> {
+    let by_number = |(made, refusal): (usize, Option<Refusal>)| (made, refusal.map(|r| r.number));
+    let mut given = input.words.clone();
+    let mut right = input.words.clone();
+    let answer = by_number(machine.schedule(&input.table, &mut given, choices));
+    let due = by_number(Oracle.schedule(&input.table, &mut right, choices));
+    differs("schedule", answer, due).or_else(|| words_differ("schedule", &given, &right))
+}

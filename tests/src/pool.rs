@@ -1,0 +1,299 @@
+//! The pool as a tree of threads, and its form of 1,673 words.
+
+use crate::refusal::Refusal;
+use crate::table::{Function, Program};
+
+/// Words of a pool, of a thread and of a frame.
+pub const POOL_WORDS: usize = 1_673;
+pub const THREAD_WORDS: usize = 209;
+pub const FRAME_WORDS: usize = 26;
+/// Limits of a pool.
+pub const MAX_THREADS: usize = 8;
+pub const MAX_FRAMES: usize = 8;
+pub const MAX_CALLS: usize = 4;
+pub const TEMPORARIES: usize = 16;
+
+/// The values of a frame's temporaries, `None` where unbound.
+pub type Temporaries = [Option<i32>; TEMPORARIES];
+
+/// The whole pool: the tree of the thread that runs main.
+#[derive(Clone, Debug, PartialEq, Eq)]
+pub struct Pool {
+    pub root: Thread,
+}
+
+/// A thread and its children.
+#[derive(Clone, Debug, PartialEq, Eq)]
+pub struct Thread {
+    /// The call stack, oldest first, never empty.
+    pub frames: Vec<Frame>,
+    /// One child for each promoted call, oldest first.
+    pub children: Vec<Thread>,
+}
+
+#[derive(Clone, Debug, PartialEq, Eq)]
+pub struct Frame {
+    pub function: usize,
+    /// The current block; in an older frame the return block.
+    pub block: usize,
+    /// Statements done in the current block.
+    pub done: usize,
+    pub temporaries: Temporaries,
+    /// The open spawn calls, oldest first.
+    pub calls: Vec<usize>,
+    /// How many of the open calls are promoted; they are the oldest.
+    pub promoted: usize,
+}
+
+impl Frame {
+    /// A frame at the entry of a function, its parameters bound to `arguments`.
+    pub fn entering(function: usize, arguments: &[i32]) -> Self {
+        let mut temporaries = [None; TEMPORARIES];
+        for (slot, &value) in temporaries.iter_mut().zip(arguments) {
+            *slot = Some(value);
+        }
+        Frame {
+            function,
+            block: 0,
+            done: 0,
+            temporaries,
+            calls: Vec::new(),
+            promoted: 0,
+        }
+    }
+
+    /// Whether some open call is not promoted.
+    pub fn has_unpromoted(&self) -> bool {
+        self.promoted < self.calls.len()
+    }
+}
+
+impl Thread {
+    /// A thread without children at the entry of a function.
+    pub fn entering(function: usize, arguments: &[i32]) -> Self {
+        Thread {
+            frames: vec![Frame::entering(function, arguments)],
+            children: Vec::new(),
+        }
+    }
+
+    /// The newest frame.
+    pub fn current(&self) -> &Frame {
+        self.frames.last().expect("a thread has a frame")
+    }
+
+    /// The newest frame, to be changed.
+    pub fn current_mut(&mut self) -> &mut Frame {
+        self.frames.last_mut().expect("a thread has a frame")
+    }
+
+    /// How many threads the tree has.
+    fn size(&self) -> usize {
+        1 + self.children.iter().map(Thread::size).sum::<usize>()
+    }
+
+    /// Lists the tree: the thread, then its children's trees, newest first.
+    fn list<'a>(&'a self, listed: &mut Vec<&'a Thread>) {
+        listed.push(self);
+        for child in self.children.iter().rev() {
+            child.list(listed);
+        }
+    }
+
+    /// The thread `ahead` places further in the listing.
+    fn find(&mut self, ahead: &mut usize) -> Option<&mut Thread> {
+        if *ahead == 0 {
+            return Some(self);
+        }
+        *ahead -= 1;
+        self.children
+            .iter_mut()
+            .rev()
+            .find_map(|child| child.find(ahead))
+    }
+}
+
+impl Pool {
+    /// The pool of a program's start: one thread at main's entry.
+    pub fn start() -> Self {
+        Pool {
+            root: Thread::entering(0, &[]),
+        }
+    }
+
+    /// How many threads there are.
+    pub fn size(&self) -> usize {
+        self.root.size()
+    }
+
+    /// All threads in the pool's order.
+    pub fn threads(&self) -> Vec<&Thread> {
+        let mut listed = Vec::new();
+        self.root.list(&mut listed);
+        listed
+    }
+
+    /// A thread by its number, to be changed.
+    pub fn thread_mut(&mut self, number: usize) -> Option<&mut Thread> {
+        let mut ahead = number;
+        self.root.find(&mut ahead)
+    }
+
+    /// The pool that 1,673 words hold for a program; refusals 12 and 13.
+    pub fn from_words(program: &Program, words: &[i32]) -> Result<Self, Refusal> {
+        if words.len() != POOL_WORDS {
+            return Err(Refusal::plain(12));
+        }
+        parse_pool(program, words).ok_or(Refusal::plain(13))
+    }
+
+    /// The pool's 1,673 words.
+    pub fn to_words(&self) -> Vec<i32> {
+        let threads = self.threads();
+        let mut words = vec![word(threads.len())];
+        for thread in threads {
+            words.extend(padded(thread_words(thread), THREAD_WORDS));
+        }
+        padded(words, POOL_WORDS)
+    }
+}
+
+/// A small count or number as a word.
+fn word(number: usize) -> i32 {
+    i32::try_from(number).expect("a pool's numbers are small")
+}
+
+/// Words filled up with 0 to a length.
+fn padded(mut words: Vec<i32>, length: usize) -> Vec<i32> {
+    words.resize(length, 0);
+    words
+}
+
+fn thread_words(thread: &Thread) -> Vec<i32> {
+    let mut words = vec![word(thread.frames.len())];
+    words.extend(thread.frames.iter().flat_map(frame_words));
+    words
+}
+
+fn frame_words(frame: &Frame) -> Vec<i32> {
+    let bound: i32 = (0..TEMPORARIES)
+        .filter(|&t| frame.temporaries[t].is_some())
+        .map(|t| 1 << t)
+        .sum();
+    let mut words = vec![
+        word(frame.function),
+        word(frame.block),
+        word(frame.done),
+        bound,
+        word(frame.calls.len()),
+        word(frame.promoted),
+    ];
+    let calls = frame.calls.iter().map(|&call| word(call)).collect();
+    words.extend(padded(calls, MAX_CALLS));
+    words.extend(frame.temporaries.iter().map(|value| value.unwrap_or(0)));
+    words
+}
+
+/// A word as a number from 0 to `most`.
+fn number(word: i32, most: usize) -> Option<usize> {
+    usize::try_from(word).ok().filter(|&n| n <= most)
+}
+
+/// A word as a count from 1 to `most`.
+fn count(word: i32, most: usize) -> Option<usize> {
+    number(word, most).filter(|&n| n >= 1)
+}
+
+/// A word as a number below `end`.
+fn below(word: i32, end: usize) -> Option<usize> {
+    usize::try_from(word).ok().filter(|&n| n < end)
+}
+
+/// The first `used` parts of equal length, if all words after them are 0.
+fn used_parts(words: &[i32], used: usize, length: usize) -> Option<Vec<&[i32]>> {
+    let (front, unused) = words.split_at(used * length);
+    unused
+        .iter()
+        .all(|&w| w == 0)
+        .then(|| front.chunks(length).collect())
+}
+
+fn parse_pool(program: &Program, words: &[i32]) -> Option<Pool> {
+    let (&first, rest) = words.split_first()?;
+    let threads = used_parts(rest, count(first, MAX_THREADS)?, THREAD_WORDS)?;
+    let stacks: Vec<Vec<Frame>> = threads
+        .into_iter()
+        .map(|thread| parse_stack(program, thread))
+        .collect::<Option<_>>()?;
+    let mut stacks = stacks.into_iter();
+    let root = grow_tree(&mut stacks)?;
+    stacks.next().is_none().then_some(Pool { root })
+}
+
+/// Takes one tree from the listed call stacks.
+fn grow_tree(stacks: &mut impl Iterator<Item = Vec<Frame>>) -> Option<Thread> {
+    let frames = stacks.next()?;
+    let promoted: usize = frames.iter().map(|frame| frame.promoted).sum();
+    let mut children = Vec::new();
+    for _ in 0..promoted {
+        children.push(grow_tree(stacks)?);
+    }
+    children.reverse();
+    Some(Thread { frames, children })
+}
+
+fn parse_stack(program: &Program, words: &[i32]) -> Option<Vec<Frame>> {
+    let (&first, rest) = words.split_first()?;
+    let frames: Vec<Frame> = used_parts(rest, count(first, MAX_FRAMES)?, FRAME_WORDS)?
+        .into_iter()
+        .map(|frame| parse_frame(program, frame))
+        .collect::<Option<_>>()?;
+    let (_, older) = frames.split_last()?;
+    let fits = older.iter().all(|frame| frame.done == 0) && promoted_oldest(&frames);
+    fits.then_some(frames)
+}
+
+/// Whether no promoted call is newer than an unpromoted one.
+fn promoted_oldest(frames: &[Frame]) -> bool {
+    let marks: Vec<bool> = frames
+        .iter()
+        .flat_map(|frame| (0..frame.calls.len()).map(|call| call < frame.promoted))
+        .collect();
+    marks.windows(2).all(|pair| pair[0] || !pair[1])
+}
+
+fn parse_frame(program: &Program, words: &[i32]) -> Option<Frame> {
+    let function = below(words[0], program.functions.len())?;
+    let code = &program.functions[function];
+    let block = below(words[1], code.blocks.len())?;
+    let done = number(words[2], code.blocks[block].statements.len())?;
+    let open = number(words[4], MAX_CALLS)?;
+    Some(Frame {
+        function,
+        block,
+        done,
+        temporaries: parse_temporaries(words[3], &words[10..])?,
+        calls: parse_calls(code, open, &words[6..10])?,
+        promoted: number(words[5], open)?,
+    })
+}
+
+fn parse_calls(code: &Function, open: usize, words: &[i32]) -> Option<Vec<usize>> {
+    used_parts(words, open, 1)?
+        .into_iter()
+        .map(|call| below(call[0], code.spawns.len()))
+        .collect()
+}
+
+fn parse_temporaries(bound: i32, words: &[i32]) -> Option<Temporaries> {
+    let bound = number(bound, 0xFFFF)?;
+    let mut temporaries = [None; TEMPORARIES];
+    for (t, &value) in words.iter().enumerate() {
+        if (bound >> t) & 1 == 1 {
+            temporaries[t] = Some(value);
+        } else if value != 0 {
+            return None;
+        }
+    }
+    Some(temporaries)
+}
