@@ -1,14 +1,15 @@
 -- General laws of tests, options and lists. `ltb-true`, `lt-ltb` and their kin (a test's value against the fact) come from
 -- borrow.Author.Tests and are passed on; the others are over Bool's connectives, and the tests and `Each` of Lists.
-use Prim.Native.Nat.{ℕ, zero, suc, _<_, zero-le, suc-le-suc}
+use Prim.Native.Nat.{ℕ, zero, suc, _+_, _≤_, _<_, zero-le, suc-le-suc}
 use mathlib.Core.Path.{_≡_, refl, sym, _∙_, ap, subst}
 use mathlib.Core.Bool.{Bool, true, false, not, _&&_, _||_, true≢false, false≢true}
 use mathlib.Core.Option.{Option, none, some, Option·map}
 use mathlib.Core.List.{List, [], _∷_, _++_}
 use native.Mathlib.Nat.{not-suc-le-zero, le-of-suc-le-suc}
+use native.Mathlib.Numerals.{add-one}
 use native.Mathlib.Omega.{arith}
 use lib.Dec.{eqb}
-use lib.ListN.{length, getElem?}
+use lib.ListN.{length, getElem?, drop}
 use Rattle.model.specs.Answers.{Refusal, Answer}
 use Rattle.model.specs.Lists.{all, Each, equal, Snoc, snoc, unsnoc}
 pub use borrow.Author.Tests.{ltb-true, ltb-false, leb-true, leb-false, eqb-true, eqb-false, not-true, not-false, lt-ltb, le-ltb, le-leb, lt-leb, eq-eqb, ne-eqb}
@@ -121,6 +122,32 @@ module _ {A : Type 0} where
   below-at [] i h = absurd (not-suc-le-zero h)
   below-at (x ∷ xs) zero h = (x, refl)
   below-at (x ∷ xs) (suc i) h = below-at xs i (le-of-suc-le-suc h)
+
+  -- the same of an index past the end
+  pub at-past : (xs : List A) (i : ℕ) → getElem? xs i ≡ none → length xs ≤ i
+  at-past [] i e = zero-le
+  at-past (x ∷ xs) zero e = none-some (sym e)
+  at-past (x ∷ xs) (suc i) e = suc-le-suc (at-past xs i e)
+
+  pub past-at : (xs : List A) (i : ℕ) → length xs ≤ i → getElem? xs i ≡ none
+  past-at [] i h = refl
+  past-at (x ∷ xs) zero h = absurd (not-suc-le-zero h)
+  past-at (x ∷ xs) (suc i) h = past-at xs i (le-of-suc-le-suc h)
+
+  -- what is left of a list from an index on
+  drop-suc : (xs : List A) (i : ℕ) {x : A} → getElem? xs i ≡ some x → drop i xs ≡ x ∷ drop (suc i) xs
+  drop-suc [] i e = none-some e
+  drop-suc (x ∷ xs) zero e = rw (some-injective e)
+  drop-suc (x ∷ xs) (suc i) e = drop-suc xs i e
+
+  pub drop-some : (xs : List A) (i : ℕ) {x : A} → getElem? xs i ≡ some x → drop i xs ≡ x ∷ drop (i + 1) xs
+  drop-some xs i e = rw (add-one i) (drop-suc xs i e)
+
+  pub drop-none : (xs : List A) (i : ℕ) → getElem? xs i ≡ none → drop i xs ≡ []
+  drop-none [] zero e = refl
+  drop-none [] (suc i) e = refl
+  drop-none (x ∷ xs) zero e = none-some (sym e)
+  drop-none (x ∷ xs) (suc i) e = drop-none xs i e
 
   -- a list as all but the last, and the last
   pub unsnoc-some : (xs : List A) (I : Snoc A) → unsnoc xs ≡ some I → xs ≡ I .front ++ (I .last ∷ [])

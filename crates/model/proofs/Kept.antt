@@ -23,7 +23,7 @@ use Rattle.model.specs.Rules
 use Rattle.model.specs.Rules.{Act, by, acts, act, Result, Promotion, choice}
 use Rattle.model.specs.Answers.{Answer}
 use Rattle.model.specs.Calls.{Lent, lent, made, chosen, choose}
-use Rattle.model.proofs.Facts.{refused-given, ltb-true, ltb-false, eqb-true, at-below, each-at, each-append, each-left, true-false, none-some, some-injective, unsnoc-some, equal-same}
+use Rattle.model.proofs.Facts.{refused-given, ltb-true, ltb-false, eqb-true, at-below, at-past, each-at, each-append, each-left, true-false, none-some, some-injective, unsnoc-some, equal-same}
 use Rattle.model.proofs.Guarantees.{read-limits}
 use Rattle.model.proofs.Members.{with-lt}
 use Rattle.model.proofs.Sets.{with-same, with-other}
@@ -428,11 +428,6 @@ abbrev pub Oldest : Program → Frame → List Frame → Option Promotion → Ty
 Oldest P k K none = Each Settled (k ∷ K)
 Oldest P k K (some p) = Promotes P k K p
 
-at-none : {A : Type 0} (xs : List A) (i : ℕ) → getElem? xs i ≡ none → length xs ≤ i
-at-none [] i e = zero-le
-at-none (x ∷ xs) zero e = none-some (sym e)
-at-none (x ∷ xs) (suc i) e = suc-le-suc (at-none xs i e)
-
 module _ {P : Program} (L : Limits P) where
   promoteIn-kept : (k : Frame) (K : List Frame) → IsFrame P k → Each (IsOlder P) K → Each Settled K → Ordered K
       → Oldest P k K (Rules.promoteIn k K)
@@ -441,7 +436,7 @@ module _ {P : Program} (L : Limits P) where
     where
       go : (o : Option ℕ) → getElem? (k .calls) (k .promoted) ≡ o
           → Oldest P k K (_>>=_ o λ π. some (record { holder = k; call = π; parent = record { newest = deque k (k .calls) (k .promoted + 1); older = K } }))
-      go none e = (omega (arith, h .promoted, at-none (k .calls) (k .promoted) e), settled)
+      go none e = (omega (arith, h .promoted, at-past (k .calls) (k .promoted) e), settled)
       go (some π) e =
           let l : k .promoted < length (k .calls) = at-below (k .calls) (k .promoted) e in
           record {

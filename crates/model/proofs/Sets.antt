@@ -14,7 +14,7 @@ use Rattle.model.specs.Sets.{has, with, withAll, within, _∈_, _⊆_}
 use Rattle.model.proofs.Facts.{eqb-true, eqb-false, eq-eqb, each-map}
 
 -- one binary digit less
-shift : (n k : ℕ) → n / 2 ^ suc k ≡ n / 2 / 2 ^ k
+pub shift : (n k : ℕ) → n / 2 ^ suc k ≡ n / 2 / 2 ^ k
 shift n k = ap (λ (m : ℕ). n / m) (pow-suc 2 k ∙ mul-comm (2 ^ k) 2) ∙ sym (div-div-eq-div-mul n 2 (2 ^ k))
 
 half-more : (n k : ℕ) → (n + 2 ^ suc k) / 2 ≡ n / 2 + 2 ^ k

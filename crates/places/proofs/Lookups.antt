@@ -1,26 +1,19 @@
 -- What the three lookups find, from the array's entry, and where the number is out of range.
-use Prim.Native.Nat.{ℕ, zero, suc, _≤_, _<_}
-use mathlib.Core.Path.{_≡_, refl, sym, subst}
+use Prim.Native.Nat.{ℕ, _≤_, _<_}
+use mathlib.Core.Path.{_≡_, refl}
 use mathlib.Core.Option.{Option, none, some}
-use mathlib.Core.List.{List, [], _∷_}
-use native.Mathlib.Nat.{le-of-suc-le-suc, not-suc-le-zero}
+use mathlib.Core.List.{List}
 use native.Mathlib.Omega.{arith}
 use lib.ListN.{length, getD, getElem?}
 use Rattle.model.specs.Syntax.{Function, Program}
 use Rattle.model.specs.Read as Read
 use Rattle.model.specs.Read.{Parser}
 use Rattle.model.specs.Pool.{blockIn}
-use Rattle.model.specs.Limits.{InFunction, Limits}
-use Rattle.model.proofs.Facts.{each-at, eq-eqb, ne-eqb}
+use Rattle.model.specs.Limits.{InFunction}
+use Rattle.model.proofs.Facts.{each-at, past-at, eq-eqb, ne-eqb}
 use Rattle.places.specs.declared.Place.{Place}
 use Rattle.places.specs.declared.Place.the-variants.{Nowhere}
-use Rattle.places.specs.Places.{absent, placeOf, functionIndex, blockIndex, spawnIndex, spawnIn, Reads, Entry, Places, Found, FindsFunction, FindsBlock, FindsSpawn}
-
--- past its end a list has nothing
-pub past : {A : Type 0} (xs : List A) (i : ℕ) → length xs ≤ i → getElem? xs i ≡ none
-past [] i h = refl
-past (x ∷ xs) zero h = absurd (not-suc-le-zero h)
-past (x ∷ xs) (suc i) h = past xs i (le-of-suc-le-suc h)
+use Rattle.places.specs.Places.{absent, placeOf, functionIndex, blockIndex, spawnIndex, spawnIn, Entry, Places, Found, FindsFunction, FindsBlock, FindsSpawn}
 
 -- an entry is the place of what is there
 pub found : {A : Type 0} (p : Parser A) (s : List ℕ) (at : ℕ) (o : Option A) → Entry p s at o → Found p s (placeOf at) o
@@ -39,7 +32,7 @@ no-block s P places f b h l = go (getElem? P f) refl
     go none e = refl
     go (some F) e =
         let few : length (F .blocks) ≤ 32 = within s P places h f e .fewBlocks in
-        past (F .blocks) b (omega arith)
+        past-at (F .blocks) b (omega arith)
 
 no-spawn : (s : List ℕ) (P : Program) (places : List ℕ) (f π : ℕ) → Places s P places → 8 ≤ π → spawnIn (getElem? P f) π ≡ none
 unfolding spawnIn
@@ -49,13 +42,13 @@ no-spawn s P places f π h l = go (getElem? P f) refl
     go none e = refl
     go (some F) e =
         let few : length (F .spawns) ≤ 8 = within s P places h f e .fewSpawns in
-        past (F .spawns) π (omega arith)
+        past-at (F .spawns) π (omega arith)
 
 module _ (places : List ℕ) (f : ℕ) where
   no-function : (s : List ℕ) (P : Program) → Places s P places → 16 ≤ f → getElem? P f ≡ none
   no-function s P h l =
       let few : length P ≤ 16 = h .limits .few in
-      past P f (omega arith)
+      past-at P f (omega arith)
 
   pub function-at : {r : Place} → r ≡ placeOf (getD places (functionIndex f) 0) → f < 16 → FindsFunction places f r
   function-at e l s P h = rw e (found Read.function s (getD places (functionIndex f) 0) (getElem? P f) (h .functions f l))

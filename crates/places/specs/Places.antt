@@ -1,12 +1,12 @@
 -- The places of a table: where each function, block and spawn call begins, as one array of offsets. Everything is looked up by
 -- number in it: function f at f, spawn call π of function f at 16 + 8 f + π, block b of function f at 144 + 32 f + b.
-use Prim.Native.Nat.{ℕ, _+_, _*_, _<_}
+use Prim.Native.Nat.{ℕ, _+_, _*_, _^_, _<_}
 use mathlib.Core.Path.{_≡_}
 use mathlib.Core.Option.{Option, none, some}
 use mathlib.Core.Bool.{cond}
 use mathlib.Core.List.{List}
 use lib.Dec.{eqb}
-use lib.ListN.{getD, getElem?}
+use lib.ListN.{length, getD, getElem?}
 use Rattle.model.specs.Syntax.{Block, SpawnCall, Function, Program}
 use Rattle.model.specs.Read as Read
 use Rattle.model.specs.Read.{Parsed, Parser}
@@ -47,8 +47,9 @@ abbrev pub Entry : {A : Type 0} → Parser A → List ℕ → ℕ → Option A �
 Entry p s at none = at ≡ absent
 Entry p s at (some a) = (at < absent) × Reads p s at a
 
--- the places of the program P that the table s reads to
+-- the places of the program P that the table s reads to; the table is no longer than a machine's numbers go
 pub record Places (s : List ℕ) (P : Program) (places : List ℕ) : Type 0 where
+  pub short : length s < 2 ^ 64
   pub limits : Limits P
   pub functions : (f : ℕ) → f < 16 → Entry Read.function s (getD places (functionIndex f) 0) (getElem? P f)
   pub blocks : (f b : ℕ) → f < 16 → b < 32 → Entry Read.block s (getD places (blockIndex f b) 0) (blockIn (getElem? P f) b)

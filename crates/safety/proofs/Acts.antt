@@ -19,10 +19,10 @@ use Rattle.model.specs.Limits.{InBlock, InFunction, Limits}
 use Rattle.model.specs.Pool.{Frame, functionOf, mostCalls}
 use Rattle.model.specs.Frames.{when, bind, goTo, deque, enter}
 use Rattle.model.specs.Rules.{Act, by, acts, stmt, goto, branch, if, call, return, spork, closing, spoin, transfer, coming, act}
-use Rattle.model.proofs.Facts.{map-some, each-at, unsnoc-snoc, same-equal, ltb-true, ltb-false, lt-ltb}
+use Rattle.model.proofs.Facts.{map-some, each-at, drop-some, drop-none, unsnoc-snoc, same-equal, ltb-true, ltb-false, lt-ltb}
 use Rattle.model.proofs.Sets.{Part, part-refl, part-more, part-with, part-each}
 use Rattle.safety.proofs.Typing.{Opens, Runs, promise, own}
-use Rattle.safety.proofs.Owed.{drop-some, drop-none, owed-append, owed-nil, owed-last, promise-is}
+use Rattle.safety.proofs.Owed.{owed-append, owed-nil, owed-last, promise-is}
 use Rattle.safety.proofs.Frames.{looked, eval-bound, reopen, cont-opens, block-of, Entered, enters, callee-begins}
 
 -- rules 1 to 9

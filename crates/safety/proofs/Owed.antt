@@ -1,32 +1,18 @@
--- The first and the rest of a list, and what promoted calls promise as calls are promoted and closed.
+-- The first items of a list, and what promoted calls promise as calls are promoted and closed.
 use Prim.Native.Nat.{ℕ, zero, suc, _+_, _-_, _≤_}
-use mathlib.Core.Path.{_≡_, refl, sym, _∙_, ap}
-use mathlib.Core.Option.{Option, none, some}
+use mathlib.Core.Path.{_≡_, refl, _∙_, ap}
+use mathlib.Core.Option.{Option, some}
 use mathlib.Core.List.{List, [], _∷_, _++_, map, reverse-append}
 use native.Mathlib.Numerals.{add-one}
 use native.Mathlib.Omega.{arith}
-use lib.ListN.{length, getElem?, take, drop, length-append}
+use lib.ListN.{length, getElem?, take, length-append}
 use lib.Seq.{take-nil, take-append-le}
 use Rattle.model.proofs.Facts.{none-some, some-injective}
 use Rattle.model.specs.Syntax.{SpawnCall, Function, Program}
 use Rattle.safety.proofs.Typing.{promise, owed}
 
--- the rest of a list behind the n first
+-- the n first of a list, and one more
 module _ {A : Type 0} where
-  drop-suc : (xs : List A) (n : ℕ) {x : A} → getElem? xs n ≡ some x → drop n xs ≡ x ∷ drop (suc n) xs
-  drop-suc [] n e = none-some e
-  drop-suc (x ∷ xs) zero e = rw (some-injective e)
-  drop-suc (x ∷ xs) (suc n) e = drop-suc xs n e
-
-  pub drop-some : (xs : List A) (n : ℕ) {x : A} → getElem? xs n ≡ some x → drop n xs ≡ x ∷ drop (n + 1) xs
-  drop-some xs n e = rw (add-one n) (drop-suc xs n e)
-
-  pub drop-none : (xs : List A) (n : ℕ) → getElem? xs n ≡ none → drop n xs ≡ []
-  drop-none [] zero e = refl
-  drop-none [] (suc n) e = refl
-  drop-none (x ∷ xs) zero e = none-some (sym e)
-  drop-none (x ∷ xs) (suc n) e = drop-none xs n e
-
   take-suc : (xs : List A) (n : ℕ) {x : A} → getElem? xs n ≡ some x → take (suc n) xs ≡ take n xs ++ (x ∷ [])
   take-suc [] n e = none-some e
   take-suc (x ∷ xs) zero e = rw (some-injective e)

@@ -1,5 +1,5 @@
 -- What reading answers, case by case.
-use Prim.Native.Nat.{ℕ, _+_, _*_, _≤_, _<_}
+use Prim.Native.Nat.{ℕ, _≤_, _<_}
 use native.Mathlib.Omega.{arith}
 use mathlib.Core.Path.{_≡_, refl, sym, ap, _∙_, subst}
 use mathlib.Core.Bool.{Bool, true, false, _&&_}
@@ -11,15 +11,17 @@ use Rattle.model.specs.Numbers as No
 use Rattle.model.specs.Answers.{Refusal, Answer}
 use Rattle.model.specs.Syntax.{Program}
 use Rattle.model.specs.Read.{Parsed, byte, many, function, program, sized, lengthField, whole, read}
+use Rattle.model.proofs.Reading.{Both, next-ok, byte-ok}
 use Rattle.table.specs.Skips.{skipOf}
 use Rattle.table.specs.Marks.{nowhere, onward, marked, functionMarks, programMarks, Kept}
+use Rattle.bytes.specs.Bytes.{wordAt}
+use Rattle.bytes.proofs.Numbers.{word-at-start}
 use Rattle.places.specs.Places.{Places}
 use Rattle.model.proofs.Guarantees as Guarantees
 use Rattle.table.specs.Reading.{readingOf, outcome, PlacedBy}
 use Rattle.table.specs.declared.grammar.Skip.{Skip}
 use Rattle.table.specs.declared.Reading.{Reading}
-use Rattle.table.proofs.Rules.{in-range}
-use Rattle.table.proofs.Marks.{Goes, goes, kept-at}
+use Rattle.table.proofs.Marks.{kept-at}
 use Rattle.table.proofs.Placed.{placed}
 
 -- the size
@@ -32,11 +34,9 @@ module _ (s : List ℕ) where
   unfolding sized
   too-long h l = simp (le-leb 6 (length s) h, lt-leb (length s) 16384 l)
 
-  pub in-limits : 6 ≤ length s → length s ≤ 16384 → (high low n : ℕ) → high ≡ getD s 0 0 * 256 + getD s 1 0 → low ≡ getD s 2 0 * 256 + getD s 3 0 → n ≡ high * 65536 + low → eqb n (length s) ≡ sized s
-  unfolding sized lengthField
-  in-limits h l high low n p q r =
-      let e : n ≡ ((getD s 0 0 * 256 + getD s 1 0) * 256 + getD s 2 0) * 256 + getD s 3 0 = omega arith in
-      simp (le-leb 6 (length s) h, le-leb (length s) 16384 l, e)
+  pub in-limits : 6 ≤ length s → length s ≤ 16384 → (n : ℕ) → n ≡ wordAt s 0 → eqb n (length s) ≡ sized s
+  unfolding sized
+  in-limits h l n e = simp (le-leb 6 (length s) h, le-leb (length s) 16384 l, e, word-at-start s)
 
   at-most : sized s ≡ true → length s ≤ 16384
   unfolding sized
@@ -48,9 +48,9 @@ module _ (s : List ℕ) where
       go false b h e = absurd (let z : _≡_ {A = ℕ} 0 1 = cc in omega arith)
 
 -- a program's functions, and their places
-parted : (s : List ℕ) (x : ℕ) (P : Program) → program s 5 ≡ Parsed.ok P x → Goes ℕ Program (byte 1 16 s 5) (λ n m. many function n s m) P x
+parted : (s : List ℕ) (x : ℕ) (P : Program) → program s 5 ≡ Parsed.ok P x → Both (byte 1 16 s 5) (λ n m. many function n s m) P x
 unfolding program
-parted s x P h = goes _ _ _ _ h
+parted s x P h = next-ok _ _ h
 
 marks-of : (s : List ℕ) (n k : ℕ) (l : List ℕ) → byte 1 16 s 5 ≡ Parsed.ok n k → programMarks s 5 l ≡ marked function (functionMarks s) n s k 0 l
 unfolding programMarks onward
@@ -108,4 +108,4 @@ module _ (s : List ℕ) (z : sized s ≡ true) where
           there P h =
               let g = parted s x P h in
               subst (Places s P) (sym (kept-at q l _ x k a ∙ ap (programMarks s 5) c ∙ marks-of s _ _ nowhere (g .first)))
-              (placed s (at-most s z) (g .value) (g .at) x P (in-range 1 16 s 5 _ _ (g .first)) (g .then) (Guarantees.program .gives s 5 P x h))
+              (placed s (at-most s z) (g .value) (g .between) x P (byte-ok 1 16 s 5 _ _ (g .first) .high) (g .then) (Guarantees.program .gives s 5 P x h))

@@ -1,9 +1,11 @@
 -- Passing over the table's rules: what each turn and each return of the code shows, in the shape of its goal.
-use Prim.Native.Nat.{ℕ, suc, _+_, _-_, _≤_, _<_}
+use Prim.Native.Nat.{ℕ, zero, suc, _+_, _-_, _≤_, _<_}
 use native.Mathlib.Omega.{arith}
 use mathlib.Core.Path.{_≡_, refl, sym, ap, _∙_}
+use mathlib.Core.Bool.{Bool, true, false}
 use mathlib.Core.List.{List}
-use borrow.Author.Tests.{lt-ltb, le-ltb, le-leb, lt-leb}
+use lib.Dec.{ltb}
+use borrow.Author.Tests.{ltb-true, ltb-false, lt-ltb, le-ltb, le-leb, lt-leb}
 use lib.ListN.{length, getD}
 use Rattle.model.specs.Read.{Parsed, Parser, next, byte, many}
 use Rattle.table.specs.Skips.{skipOf, byteOf}
@@ -89,6 +91,32 @@ many-stops A p s left k x X e a h = skip-else _ _ (p s k) _ x a ∙ sym (e ∙ u
 pub many-ends : (A : Type 0) (p : Parser A) (s : List ℕ) (left k : ℕ) (X : Skip) → X ≡ skipOf (many p left s k) → left ≤ 0 → Skip.At k ≡ X
 unfolding many skipOf
 many-ends A p s left k X e h = let z : left ≡ 0 = omega arith in sym (e ∙ ap (λ (n : ℕ). skipOf (many p n s k)) z)
+
+-- bytes of any value: all are there, or one is missing
+module _ (s : List ℕ) (small : (i : ℕ) → getD s i 0 < 256) where
+  any-goes : (n at : ℕ) → at < length s → skipOf (many (byte 0 255) (suc n) s at) ≡ skipOf (many (byte 0 255) n s (at + 1))
+  any-goes n at h =
+      let e : suc n - 1 ≡ n = omega arith in
+      let a : skipOf (byte 0 255 s at) ≡ Skip.At (at + 1) = found-at _ _ _ _ (byte-found s at 0 255 h (omega arith) (omega (arith, small at))) refl in
+      many-goes _ (byte 0 255) s (suc n) at (at + 1) _ refl a (omega arith) ∙ ap (λ (k : ℕ). skipOf (many (byte 0 255) k s (at + 1))) e
+
+  pub all-there : (n at : ℕ) → at + n ≤ length s → Skip.At (at + n) ≡ skipOf (many (byte 0 255) n s at)
+  all-there zero at h = let e : at + 0 ≡ at = omega arith in ap Skip.At e ∙ many-ends _ (byte 0 255) s 0 at _ refl (omega arith)
+  all-there (suc n) at h =
+      let e : at + suc n ≡ at + 1 + n = omega arith in
+      ap Skip.At e ∙ all-there n (at + 1) (omega arith) ∙ sym (any-goes n at (omega arith))
+
+  pub one-missing : (n at : ℕ) → 0 < n → length s < at + n → Skip.Bad (length s) ≡ skipOf (many (byte 0 255) n s at)
+  one-missing zero at p h = absurd (omega arith)
+  one-missing (suc n) at p h = go (ltb at (length s)) refl (λ q. one-missing n (at + 1) q (omega arith))
+    where
+      go : (b : Bool) → ltb at (length s) ≡ b → (0 < n → Skip.Bad (length s) ≡ skipOf (many (byte 0 255) n s (at + 1))) → Skip.Bad (length s) ≡ skipOf (many (byte 0 255) (suc n) s at)
+      go true e rest =
+          let l : at < length s = ltb-true at (length s) e in
+          rest (omega arith) ∙ sym (any-goes n at l)
+      go false e rest =
+          let l : length s ≤ at = ltb-false at (length s) e in
+          many-stops _ (byte 0 255) s (suc n) at (length s) _ refl (found-bad _ _ _ (byte-missing s at 0 255 l) refl) (omega arith)
 
 pub ruleset arms = (found-at, found-bad, skip-at, skip-bad)
 

@@ -5,13 +5,14 @@ use mathlib.Core.Path.{_≡_, refl, sym, ap, _∙_, subst}
 use mathlib.Core.List.{List}
 use lib.ListN.{set}
 use Rattle.model.specs.Read.{Parsed, Parser, next, byte, many, spawnCall, block, function, program}
+use Rattle.model.proofs.Reading.{next-ok, byte-ok}
 use Rattle.table.specs.Skips.{skipOf, byteOf}
 use Rattle.table.specs.Marks.{short, put, onward, marked, Many, sizes, sizesOf, functionMarks, programMarks, spawnsFrom, blocksFrom, Kept}
 use Rattle.table.specs.declared.grammar.Skip.{Skip}
 use Rattle.table.specs.declared.grammar.Found.{Found}
 use Rattle.table.specs.declared.walk.Sizes.{Sizes}
 use Rattle.table.proofs.Laws.{skip-then, skip-else, skip-last, skip-ok, loops}
-use Rattle.table.proofs.Rules.{flat, in-range}
+use Rattle.table.proofs.Rules.{flat}
 
 pub onward-at : {A B : Type 0} (p : Parsed A) (k : A → ℕ → B) (b : B) (r : B) (m : ℕ) → skipOf p ≡ Skip.At m → ((a : A) → p ≡ Parsed.ok a m → k a m ≡ r) → onward p k b ≡ r
 unfolding onward skipOf
@@ -51,18 +52,7 @@ has-all b c m = refl
 
 pub ruleset numbered = (whole-then, lacks-else, has-all)
 
--- a reading that goes on was good, and so was what it went on to
-pub record Goes (A B : Type 0) (p : Parsed A) (k : A → ℕ → Parsed B) (b : B) (e : ℕ) : Type 0 where
-  pub value : A
-  pub at : ℕ
-  pub first : p ≡ Parsed.ok value at
-  pub then : k value at ≡ Parsed.ok b e
-
-pub goes : {A B : Type 0} (p : Parsed A) (k : A → ℕ → Parsed B) (b : B) (e : ℕ) → next p k ≡ Parsed.ok b e → Goes A B p k b e
-unfolding next
-goes (Parsed.ok a m) k b e h = record { value = a; at = m; first = refl; then = h }
-goes (Parsed.bad x) k b e h = absurd (let z : _≡_ {A = ℕ} 0 1 = cc in omega arith)
-
+-- how many blocks and spawn calls were read
 pub record Few (b c : ℕ) : Type 0 where
   pub blocks : b ≤ 32
   pub spawns : c ≤ 8
@@ -74,15 +64,15 @@ ofOk (Parsed.bad x) = record { blocks = 0; spawns = 0 }
 pub few-of : (s : List ℕ) (at : ℕ) (z : Many) (m : ℕ) → sizes s at ≡ Parsed.ok z m → Few (z .blocks) (z .spawns)
 unfolding sizes ofOk
 few-of s at z m e =
-    let g₁ = goes _ _ _ _ e in
-    let g₂ = goes _ _ _ _ (g₁ .then) in
-    let g₃ = goes _ _ _ _ (g₂ .then) in
-    let g₄ = goes _ _ _ _ (g₃ .then) in
+    let g₁ = next-ok _ _ e in
+    let g₂ = next-ok _ _ (g₁ .then) in
+    let g₃ = next-ok _ _ (g₂ .then) in
+    let g₄ = next-ok _ _ (g₃ .then) in
     let b : g₃ .value ≡ z .blocks = ap (λ (p : Parsed Many). ofOk p .blocks) (g₄ .then) in
     let c : g₄ .value ≡ z .spawns = ap (λ (p : Parsed Many). ofOk p .spawns) (g₄ .then) in
     record {
-      blocks = omega (arith, in-range 1 32 s _ _ _ (g₃ .first));
-      spawns = omega (arith, in-range 0 8 s _ _ _ (g₄ .first));
+      blocks = omega (arith, byte-ok 1 32 s _ _ _ (g₃ .first) .high);
+      spawns = omega (arith, byte-ok 0 8 s _ _ _ (g₄ .first) .high);
     }
 
 pub few : (s : List ℕ) (at : ℕ) (z : Sizes) (b c k : ℕ) → sizesOf z ≡ sizes s at → z ≡ Sizes.Has b c k → Few b c

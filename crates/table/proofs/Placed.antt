@@ -4,51 +4,19 @@ use Prim.Native.Nat.{ℕ, zero, suc, _+_, _≤_, _<_}
 use native.Mathlib.Omega.{arith}
 use mathlib.Core.Path.{_≡_, refl, sym, ap, _∙_, subst, subst₂, subst₃}
 use mathlib.Core.Logic.{_≢_}
-use mathlib.Core.Bool.{Bool, true, false, cond, _&&_}
 use mathlib.Core.Option.{Option, none, some}
 use mathlib.Core.List.{List, [], _∷_}
-use borrow.Author.Tests.{ltb-true, ltb-false}
-use lib.Dec.{ltb, leb}
 use lib.ListN.{length, getD, getElem?, replicate, length-set, length-replicate}
 use lib.Seq.{getD-set-same, getD-set-other}
 use Rattle.model.specs.Read.{Parsed, Parser, next, byte, many, spawnCall, block, function}
 use Rattle.model.specs.Read as Read
 use Rattle.model.specs.Syntax.{Function, Program}
 use Rattle.model.specs.Pool.{blockIn}
+use Rattle.model.proofs.Reading.{ok-value, ok-offset, next-ok, byte-ok, many-uncons}
 use Rattle.table.specs.Marks.{short, put, nowhere, onward, marked, Many, sizes, functionMarks, spawnsFrom, blocksFrom}
 use Rattle.model.specs.Limits.{Limits}
-use Rattle.places.specs.Places.{absent, functionIndex, blockIndex, spawnIndex, spawnIn, Reads, Entry, Places}
-use Rattle.table.proofs.Rules.{in-range}
-use Rattle.table.proofs.Marks.{goes, few-of}
-
-pub ok-value : {A : Type 0} {a b : A} {m n : ℕ} → Parsed.ok a m ≡ Parsed.ok b n → a ≡ b
-ok-value e = cc
-
-pub ok-end : {A : Type 0} {a b : A} {m n : ℕ} → Parsed.ok a m ≡ Parsed.ok b n → m ≡ n
-ok-end e = cc
-
--- n items read one after another: the first, and the rest
-record Split (A : Type 0) (p : Parser A) (n : ℕ) (s : List ℕ) (at : ℕ) (xs : List A) (e : ℕ) : Type 0 where
-  first : A
-  others : List A
-  at′ : ℕ
-  reads : p s at ≡ Parsed.ok first at′
-  rest : many p n s at′ ≡ Parsed.ok others e
-  is : xs ≡ first ∷ others
-
-split : {A : Type 0} (p : Parser A) (n : ℕ) (s : List ℕ) (at : ℕ) (xs : List A) (e : ℕ) → many p (suc n) s at ≡ Parsed.ok xs e → Split A p n s at xs e
-unfolding many
-split {A} p n s at xs e h =
-    let g = goes _ _ _ _ h in
-    let g′ = goes _ _ _ _ (g .then) in
-    record {
-      first = g .value;
-      others = g′ .value;
-      at′ = g .at;
-      reads = g .first;
-      rest = g′ .first ∙ ap (Parsed.ok (g′ .value)) (ok-end (g′ .then));
-      is = sym (ok-value (g′ .then));
-    }
+use Rattle.places.specs.Places.{absent, spawnIn, Entry, Places}
+use Rattle.table.proofs.Marks.{few-of}
 
 none-left : {A : Type 0} (p : Parser A) (s : List ℕ) (at : ℕ) (xs : List A) (e : ℕ) → many p zero s at ≡ Parsed.ok xs e → xs ≡ []
 unfolding many
@@ -58,12 +26,6 @@ none-left p s at xs e h = sym (ok-value h)
 marked-suc : {A : Type 0} (p : Parser A) (mark : ℕ → ℕ → List ℕ → List ℕ) (n : ℕ) (s : List ℕ) (at i : ℕ) (l : List ℕ) (x : A) (m : ℕ) → p s at ≡ Parsed.ok x m → marked p mark (suc n) s at i l ≡ marked p mark n s m (i + 1) (mark i at l)
 unfolding marked onward
 marked-suc p mark n s at i l x m e = rw e refl
-
-pub many-length : {A : Type 0} (p : Parser A) (n : ℕ) (s : List ℕ) (at : ℕ) (xs : List A) (e : ℕ) → many p n s at ≡ Parsed.ok xs e → length xs ≡ n
-many-length p zero s at xs e h = ap length (none-left p s at xs e h)
-many-length p (suc n) s at xs e h =
-    let c = split p n s at xs e h in
-    ap length (c .is) ∙ ap suc (many-length p n s (c .at′) (c .others) e (c .rest))
 
 -- what holds of both ways holds onward
 either : {A B : Type 0} (P : B → Type 0) (q : Parsed A) (k : A → ℕ → B) (b : B) → ((a : A) (m : ℕ) → P (k a m)) → P b → P (onward q k b)
@@ -119,53 +81,45 @@ module _ {A : Type 0} (p : Parser A) (s : List ℕ) (b : Begins p s) where
   unfolding marked
   items zero at i l xs e h g j f = entry-by p s (f (omega arith)) (ap (λ (ys : List A). getElem? ys j) (none-left p s at xs e h)) refl
   items (suc n) at i l xs e h g zero f =
-      let c = split p n s at xs e h in
+      let c = many-uncons p n s at h in
       let l₁ : List ℕ = put i at l in
-      let z : getD (marked p put n s (c .at′) (i + 1) l₁) (i + 0) 65535 ≡ at =
-      marked-other p put s (i + 0) 65535 (λ (x : ℕ). ¬ (i + 0 ≡ x)) (λ i at l o. put-other _ _ i at l o) n (c .at′) (i + 1) l₁ (λ j h q. omega arith)
+      let z : getD (marked p put n s (c .between) (i + 1) l₁) (i + 0) 65535 ≡ at =
+      marked-other p put s (i + 0) 65535 (λ (x : ℕ). ¬ (i + 0 ≡ x)) (λ i at l o. put-other _ _ i at l o) n (c .between) (i + 1) l₁ (λ j h q. omega arith)
       ∙ ap (λ (x : ℕ). getD l₁ x 65535) (omega arith)
       ∙ getD-set-same l i (short at) 65535 (omega arith)
-      ∙ kept p s b at (c .first) (c .at′) (c .reads) in
+      ∙ kept p s b at (c .item) (c .between) (c .first) in
       entry-by p s
-      (ap (λ (x : List ℕ). getD x (i + 0) 65535) (marked-suc p put n s at i l (c .first) (c .at′) (c .reads)) ∙ z)
+      (ap (λ (x : List ℕ). getD x (i + 0) 65535) (marked-suc p put n s at i l (c .item) (c .between) (c .first)) ∙ z)
       (ap (λ (ys : List A). getElem? ys zero) (c .is))
-      (there p s b at (c .first) (c .at′) (c .reads))
+      (there p s b at (c .item) (c .between) (c .first))
   items (suc n) at i l xs e h g (suc j) f =
-      let c = split p n s at xs e h in
+      let c = many-uncons p n s at h in
       let l₁ : List ℕ = put i at l in
       let q : i + suc j ≡ i + 1 + j = omega arith in
       entry-by p s
-      (ap (λ (x : List ℕ). getD x (i + suc j) 65535) (marked-suc p put n s at i l (c .first) (c .at′) (c .reads))
-      ∙ ap (λ (x : ℕ). getD (marked p put n s (c .at′) (i + 1) l₁) x 65535) q)
+      (ap (λ (x : List ℕ). getD x (i + suc j) 65535) (marked-suc p put n s at i l (c .item) (c .between) (c .first))
+      ∙ ap (λ (x : ℕ). getD (marked p put n s (c .between) (i + 1) l₁) x 65535) q)
       (ap (λ (ys : List A). getElem? ys (suc j)) (c .is))
-      (items n (c .at′) (i + 1) l₁ (c .others) e (c .rest) (omega (arith, put-long i at l)) j
+      (items n (c .between) (i + 1) l₁ (c .rest) e (c .then) (omega (arith, put-long i at l)) j
       (λ o. ap (λ (x : ℕ). getD l₁ x 65535) (sym q) ∙ put-other (i + suc j) 65535 i at l (λ u. omega arith) ∙ f (omega arith)))
 
 -- a rule that begins with a byte begins within the table
-byte-within : (lo hi : ℕ) (s : List ℕ) (at v m : ℕ) → byte lo hi s at ≡ Parsed.ok v m → at < length s
-unfolding byte
-byte-within lo hi s at v m e = go (ltb at (length s)) refl e
-  where
-    go : (t : Bool) → ltb at (length s) ≡ t → cond t (cond (leb lo (getD s at 0) && leb (getD s at 0) hi) (Parsed.ok (getD s at 0) (at + 1)) (Parsed.bad at)) (Parsed.bad (length s)) ≡ Parsed.ok v m → at < length s
-    go true h e = ltb-true at (length s) h
-    go false h e = absurd (let z : _≡_ {A = ℕ} 0 1 = cc in omega arith)
-
 module _ (s : List ℕ) (small : length s ≤ 16384) where
   spawn-begins : Begins spawnCall s
   unfolding Begins spawnCall Read.name
-  spawn-begins at a m e = let h : at < length s = byte-within _ _ s at _ _ (goes _ _ _ _ e .first) in omega arith
+  spawn-begins at a m e = let h : at < length s = byte-ok _ _ s at _ _ (next-ok _ _ e .first) .inside in omega arith
 
   block-begins : Begins block s
   unfolding Begins block Read.head Read.arguments Read.counted
   block-begins at a m e =
-      let g = goes _ _ _ _ e in
-      let g′ = goes _ _ _ _ (g .first) in
-      let h : at < length s = byte-within _ _ s at _ _ (goes _ _ _ _ (g′ .first) .first) in
+      let g = next-ok _ _ e in
+      let g′ = next-ok _ _ (g .first) in
+      let h : at < length s = byte-ok _ _ s at _ _ (next-ok _ _ (g′ .first) .first) .inside in
       omega arith
 
   function-begins : Begins function s
   unfolding Begins function
-  function-begins at a m e = let h : at < length s = byte-within _ _ s at _ _ (goes _ _ _ _ e .first) in omega arith
+  function-begins at a m e = let h : at < length s = byte-ok _ _ s at _ _ (next-ok _ _ e .first) .inside in omega arith
 
 -- a function's parts, as they were read
 record Parts (s : List ℕ) (at : ℕ) (F : Function) (e : ℕ) : Type 0 where
@@ -185,21 +139,21 @@ sized-is s at n r b c k l m e p q u v = rw (p, q, u, v)
 parts : (s : List ℕ) (at : ℕ) (F : Function) (e : ℕ) → function s at ≡ Parsed.ok F e → Parts s at F e
 unfolding function
 parts s at F e h =
-    let g₁ = goes _ _ _ _ h in
-    let g₂ = goes _ _ _ _ (g₁ .then) in
-    let g₃ = goes _ _ _ _ (g₂ .then) in
-    let g₄ = goes _ _ _ _ (g₃ .then) in
-    let g₅ = goes _ _ _ _ (g₄ .then) in
-    let g₆ = goes _ _ _ _ (g₅ .then) in
+    let g₁ = next-ok _ _ h in
+    let g₂ = next-ok _ _ (g₁ .then) in
+    let g₃ = next-ok _ _ (g₂ .then) in
+    let g₄ = next-ok _ _ (g₃ .then) in
+    let g₅ = next-ok _ _ (g₄ .then) in
+    let g₆ = next-ok _ _ (g₅ .then) in
     record {
       numbers = record { blocks = g₃ .value; spawns = g₄ .value };
-      from = g₄ .at;
-      until = g₅ .at;
+      from = g₄ .between;
+      until = g₅ .between;
       sized = sized-is s at _ _ _ _ _ _ _ _ (g₁ .first) (g₂ .first) (g₃ .first) (g₄ .first);
-      spawns = g₅ .first ∙ ap (λ (F : Function). Parsed.ok (F .spawns) (g₅ .at)) (ok-value (g₆ .then));
-      blocks = g₆ .first ∙ ap (Parsed.ok (g₆ .value)) (ok-end (g₆ .then)) ∙ ap (λ (F : Function). Parsed.ok (F .blocks) e) (ok-value (g₆ .then));
-      few-blocks = in-range 1 32 s _ _ _ (g₃ .first);
-      few-spawns = in-range 0 8 s _ _ _ (g₄ .first);
+      spawns = g₅ .first ∙ ap (λ (F : Function). Parsed.ok (F .spawns) (g₅ .between)) (ok-value (g₆ .then));
+      blocks = g₆ .first ∙ ap (Parsed.ok (g₆ .value)) (ok-offset (g₆ .then)) ∙ ap (λ (F : Function). Parsed.ok (F .blocks) e) (ok-value (g₆ .then));
+      few-blocks = byte-ok 1 32 s _ _ _ (g₃ .first) .high;
+      few-spawns = byte-ok 0 8 s _ _ _ (g₄ .first) .high;
     }
 
 -- the indices of a function's places: its own, those of its spawn calls, those of its blocks
@@ -353,19 +307,19 @@ module _ (s : List ℕ) (small : length s ≤ 16384) where
   unfolding marked
   functions-right zero at i l Fs e h a long r j b = subst (λ (x : List Function). Right s l (i + j) (getElem? x j)) (sym (none-left function s at Fs e h)) (r (i + j) (omega arith) b)
   functions-right (suc n) at i l Fs e h a long r zero b =
-      let c = split function n s at Fs e h in
+      let c = many-uncons function n s at h in
       let l₁ : List ℕ = functionMarks s i at l in
       let z : i ≡ i + 0 = omega arith in
-      let own : Right s l₁ i (some (c .first)) = function-right i at l (c .first) (c .at′) (omega arith) long (r i (omega arith) (omega arith)) (c .reads) in
-      let all : Right s (marked function (functionMarks s) n s (c .at′) (i + 1) l₁) i (some (c .first)) = same-slots l₁ _ i _ (λ σ o. later-other n (c .at′) (i + 1) l₁ i σ o (omega arith) (omega arith)) own in
-      subst₃ (λ (x : List ℕ) (g : ℕ) (F : Option Function). Right s x g F) (sym (marked-suc function (functionMarks s) n s at i l (c .first) (c .at′) (c .reads))) z (ap (λ (x : List Function). getElem? x zero) (sym (c .is))) all
+      let own : Right s l₁ i (some (c .item)) = function-right i at l (c .item) (c .between) (omega arith) long (r i (omega arith) (omega arith)) (c .first) in
+      let all : Right s (marked function (functionMarks s) n s (c .between) (i + 1) l₁) i (some (c .item)) = same-slots l₁ _ i _ (λ σ o. later-other n (c .between) (i + 1) l₁ i σ o (omega arith) (omega arith)) own in
+      subst₃ (λ (x : List ℕ) (g : ℕ) (F : Option Function). Right s x g F) (sym (marked-suc function (functionMarks s) n s at i l (c .item) (c .between) (c .first))) z (ap (λ (x : List Function). getElem? x zero) (sym (c .is))) all
   functions-right (suc n) at i l Fs e h a long r (suc j) b =
-      let c = split function n s at Fs e h in
+      let c = many-uncons function n s at h in
       let l₁ : List ℕ = functionMarks s i at l in
       let z : i + 1 + j ≡ i + suc j = omega arith in
       let free : (g : ℕ) → i + 1 ≤ g → g < 16 → Right s l₁ g none = λ g p q. same-slots l l₁ g none (λ σ o. marks-other s i g at l σ o (λ u. omega arith) q (omega arith)) (r g (omega arith) q) in
-      let all : Right s (marked function (functionMarks s) n s (c .at′) (i + 1) l₁) (i + 1 + j) (getElem? (c .others) j) = functions-right n (c .at′) (i + 1) l₁ (c .others) e (c .rest) (omega arith) (marks-long s i at l ∙ long) free j (omega arith) in
-      subst₃ (λ (x : List ℕ) (g : ℕ) (F : Option Function). Right s x g F) (sym (marked-suc function (functionMarks s) n s at i l (c .first) (c .at′) (c .reads))) z (ap (λ (x : List Function). getElem? x (suc j)) (sym (c .is))) all
+      let all : Right s (marked function (functionMarks s) n s (c .between) (i + 1) l₁) (i + 1 + j) (getElem? (c .rest) j) = functions-right n (c .between) (i + 1) l₁ (c .rest) e (c .then) (omega arith) (marks-long s i at l ∙ long) free j (omega arith) in
+      subst₃ (λ (x : List ℕ) (g : ℕ) (F : Option Function). Right s x g F) (sym (marked-suc function (functionMarks s) n s at i l (c .item) (c .between) (c .first))) z (ap (λ (x : List Function). getElem? x (suc j)) (sym (c .is))) all
 
   -- at first all is empty
   empty-right : (g : ℕ) → Right s nowhere g none
@@ -404,6 +358,7 @@ module _ (s : List ℕ) (small : length s ≤ 16384) where
     unfolding Right
     placed L =
         record {
+          short = omega arith;
           limits = L;
           functions = λ f b. entry-by function s {o = getElem? P f} (any f 0 (omega arith)) refl (right f b whole tt);
           spawns = λ f π b c. entry-by spawnCall s {o = spawnIn (getElem? P f) π} (any (spawnsFrom f + π) 0 (omega arith)) refl (right f b (spawn π) c);

@@ -1,16 +1,14 @@
 -- The grammar's rules, passed over: which of them take the same bytes, and what stands behind a kind.
-use Prim.Native.Nat.{ℕ, zero, suc, _+_, _≤_, _<_}
+use Prim.Native.Nat.{ℕ, zero, suc, _≤_, _<_}
 use native.Mathlib.Omega.{arith}
 use mathlib.Core.Path.{_≡_, refl, sym, ap, _∙_}
-use mathlib.Core.Bool.{Bool, true, false, cond, _&&_}
 use mathlib.Core.List.{List, [], _∷_}
-use borrow.Author.Tests.{leb-true}
-use lib.Dec.{ltb, leb}
-use lib.ListN.{length, getD}
 use Rattle.model.specs.Read.{Parsed, Parser, next, byte, many, pick}
 use Rattle.model.specs.Read as Read
 use Rattle.model.specs.Syntax.{Atom, Expression}
-use Rattle.table.specs.Skips.{skipOf, byteOf, operandsOf, transferOf}
+use Rattle.model.proofs.Reading.{byte-ok}
+use Rattle.bytes.specs.Bytes.{operands}
+use Rattle.table.specs.Skips.{skipOf, byteOf, transferOf}
 use Rattle.table.specs.declared.grammar.Skip.{Skip}
 use Rattle.table.specs.declared.grammar.Found.{Found}
 use mathlib.Core.Logic.{_≢_}
@@ -45,6 +43,10 @@ ruleset alike = (same-next, same-ok)
 pub half-bytes : (s : List ℕ) (at : ℕ) → skipOf (Read.half s at) ≡ skipOf (many (byte 0 255) 2 s at)
 unfolding Read.half many
 half-bytes s at = simp flat (search alike)
+
+name-bytes : (s : List ℕ) (at : ℕ) → skipOf (byte 0 255 s at) ≡ skipOf (many (byte 0 255) 1 s at)
+unfolding many
+name-bytes s at = simp flat (skip-last _ _ (byte 0 255 s at) _ _ refl (λ a m. skip-ok _ _ m))
 
 pub value-bytes : (s : List ℕ) (at : ℕ) → skipOf (Read.value s at) ≡ skipOf (many (byte 0 255) 4 s at)
 unfolding Read.value Read.word Read.half many
@@ -88,19 +90,9 @@ unfolding Read.binary many
 binary-atoms e s at = simp flat (search alike)
 
 -- a byte that was found is in its range
-pub in-range : (lo hi : ℕ) (s : List ℕ) (at v m : ℕ) → byte lo hi s at ≡ Parsed.ok v m → v ≤ hi
-unfolding byte
-in-range lo hi s at v m e = go (ltb at (length s)) (leb lo (getD s at 0)) (leb (getD s at 0) hi) refl e
-  where
-    go : (a b c : Bool) → leb (getD s at 0) hi ≡ c → cond a (cond (b && c) (Parsed.ok (getD s at 0) (at + 1)) (Parsed.bad at)) (Parsed.bad (length s)) ≡ Parsed.ok v m → v ≤ hi
-    go true true true h e = let q : getD s at 0 ≡ v = cc in omega (arith, leb-true (getD s at 0) hi h)
-    go true true false h e = absurd (let z : _≡_ {A = ℕ} 0 1 = cc in omega arith)
-    go true false c h e = absurd (let z : _≡_ {A = ℕ} 0 1 = cc in omega arith)
-    go false b c h e = absurd (let z : _≡_ {A = ℕ} 0 1 = cc in omega arith)
-
 pub found-range : (lo hi : ℕ) (s : List ℕ) (at : ℕ) (f : Found) (v m : ℕ) → byteOf f ≡ byte lo hi s at → f ≡ Found.Byte v m → v ≤ hi
 unfolding byteOf
-found-range lo hi s at f v m e a = in-range lo hi s at v m (sym e ∙ ap byteOf a)
+found-range lo hi s at f v m e a = byte-ok lo hi s at v m (sym e ∙ ap byteOf a) .high
 
 -- what stands behind an atom's kind, and behind an expression's
 pub atom-value : (s : List ℕ) (v m : ℕ) (r : Skip) → v ≡ 0 → r ≡ skipOf (many (byte 0 255) 4 s m) → r ≡ skipOf (pick (Read.value ∷ Read.variable ∷ []) v s m)
@@ -118,15 +110,15 @@ atom-variable s at v m r f b a z e =
 abbrev kinds : List (Parser Expression)
 kinds = Read.unary Expression.atom ∷ Read.unary Expression.minus ∷ Read.binary Expression.plus ∷ Read.binary Expression.less ∷ []
 
-operands-atoms : (v : ℕ) (s : List ℕ) (m : ℕ) → v ≤ 3 → skipOf (many Read.atom (operandsOf v) s m) ≡ skipOf (pick kinds v s m)
-unfolding pick operandsOf
+operands-atoms : (v : ℕ) (s : List ℕ) (m : ℕ) → v ≤ 3 → skipOf (many Read.atom (operands v) s m) ≡ skipOf (pick kinds v s m)
+unfolding pick operands
 operands-atoms zero s m h = sym (unary-atoms _ s m)
 operands-atoms (suc zero) s m h = sym (unary-atoms _ s m)
 operands-atoms (suc (suc zero)) s m h = sym (binary-atoms _ s m)
 operands-atoms (suc (suc (suc zero))) s m h = sym (binary-atoms _ s m)
 operands-atoms (suc (suc (suc (suc v)))) s m h = absurd (omega arith)
 
-pub expression-atoms : (s : List ℕ) (at v m n : ℕ) (r : Skip) (f : Found) → byteOf f ≡ byte 0 3 s at → f ≡ Found.Byte v m → n ≡ operandsOf v → r ≡ skipOf (many Read.atom n s m) → r ≡ skipOf (pick (Read.unary Expression.atom ∷ Read.unary Expression.minus ∷ Read.binary Expression.plus ∷ Read.binary Expression.less ∷ []) v s m)
+pub expression-atoms : (s : List ℕ) (at v m n : ℕ) (r : Skip) (f : Found) → byteOf f ≡ byte 0 3 s at → f ≡ Found.Byte v m → n ≡ operands v → r ≡ skipOf (many Read.atom n s m) → r ≡ skipOf (pick (Read.unary Expression.atom ∷ Read.unary Expression.minus ∷ Read.binary Expression.plus ∷ Read.binary Expression.less ∷ []) v s m)
 expression-atoms s at v m n r f b a q e =
     e ∙ ap (λ (k : ℕ). skipOf (many Read.atom k s m)) q ∙ operands-atoms v s m (found-range 0 3 s at f v m b a)
 
@@ -172,7 +164,7 @@ no-kind (suc (suc (suc (suc (suc zero))))) s at h = absurd (omega arith)
 pub other-skip : (s : List ℕ) (at kind : ℕ) → 5 < kind → Skip.Bad at ≡ skipOf (transferOf kind s at)
 other-skip s at kind h = no-kind kind s at h
 
--- two names behind an expression, one behind a call's arguments, and what stands behind a scope
+-- two names behind an expression, one behind a call's arguments, and what stands behind a scope and behind a name
 pub if-then : (s : List ℕ) (at m : ℕ) (r q : Skip) → q ≡ skipOf (Read.expression s at) → q ≡ Skip.At m → r ≡ skipOf (many (byte 0 255) 2 s m) → r ≡ skipOf (Read.if s at)
 if-then s at m r q b a e = skip-then _ _ (Read.expression s at) _ r q m b a (λ x. e) ∙ sym (if-names s at)
 
@@ -191,6 +183,12 @@ half-then B s at k r q m e a h = skip-then _ _ (Read.half s at) k r q m (e ∙ s
 pub half-bad : (s : List ℕ) (at : ℕ) (q : Skip) (x : ℕ) → q ≡ skipOf (many (byte 0 255) 2 s at) → q ≡ Skip.Bad x → skipOf (Read.half s at) ≡ Skip.Bad x
 half-bad s at q x e a = half-bytes s at ∙ sym e ∙ a
 
-pub ruleset kinds-of = (atom-value, atom-variable, expression-atoms, half-then, half-bad, skips)
+pub name-then : (B : Type 0) (s : List ℕ) (at : ℕ) (k : ℕ → ℕ → Parsed B) (r q : Skip) (m : ℕ) → q ≡ skipOf (many (byte 0 255) 1 s at) → q ≡ Skip.At m → ((a : ℕ) → r ≡ skipOf (k a m)) → r ≡ skipOf (next (byte 0 255 s at) k)
+name-then B s at k r q m e a h = skip-then _ _ (byte 0 255 s at) k r q m (e ∙ sym (name-bytes s at)) a h
+
+pub name-bad : (s : List ℕ) (at : ℕ) (q : Skip) (x : ℕ) → q ≡ skipOf (many (byte 0 255) 1 s at) → q ≡ Skip.Bad x → skipOf (byte 0 255 s at) ≡ Skip.Bad x
+name-bad s at q x e a = name-bytes s at ∙ sym e ∙ a
+
+pub ruleset kinds-of = (name-then, name-bad, atom-value, atom-variable, expression-atoms, half-then, half-bad, skips)
 
 pub ruleset transfers = (goto-skip, if-skip, call-skip, return-skip, spork-skip, spoin-skip, other-skip, if-then, if-else, call-then, call-else, arms)

@@ -1,7 +1,6 @@
 -- What passing over a rule of the table answers: the rule's own reading, without its value.
 use Prim.Native.Nat.{ℕ}
-use mathlib.Core.List.{List, [], _∷_}
-use lib.ListN.{getD}
+use mathlib.Core.List.{[], _∷_}
 use Rattle.model.specs.Read.{Parsed, Parser, pick}
 use Rattle.model.specs.Read as Read
 use Rattle.model.specs.Syntax.{Transfer}
@@ -15,10 +14,6 @@ skipOf (Parsed.bad place) = Skip.Bad place
 unfoldable pub byteOf : Found → Parsed ℕ
 byteOf (Found.Byte b at) = Parsed.ok b at
 byteOf (Found.Wrong place) = Parsed.bad place
-
--- how many operands an expression of each kind has
-unfoldable pub operandsOf : ℕ → ℕ
-operandsOf kind = getD (1 ∷ 1 ∷ 2 ∷ 2 ∷ []) kind 0
 
 -- what follows a transfer's kind
 unfoldable pub transferOf : ℕ → Parser Transfer

@@ -1,8 +1,7 @@
 // The rules of document 01's table, each passed over at an offset: where it ends, or the place of the first bad byte.
 ghost use mathlib.Core.Path.{_≡_};
-ghost use lib.ListN.{getD};
 ghost use Rattle.model.specs.Read as Read;
-ghost use Rattle.table.specs.Skips.{skipOf, byteOf, operandsOf, transferOf};
+ghost use Rattle.table.specs.Skips.{skipOf, byteOf, transferOf};
 
 // A byte and the offset behind it, or the place of the first bad byte.
 pub enum Found {
@@ -14,13 +13,6 @@ pub enum Found {
 pub enum Skip {
     At(usize),
     Bad(usize),
-}
-
-// The byte at an offset; 0 past the end.
-pub fn get(s: &[u8], at: usize) -> usize
-    ensures { λ r. ⌜ r ≡ getD (now (s .entry)) at 0 ⌝ }
-{
-    if at < s.len() { s[at] as usize } else { 0 }
 }
 
 // A byte from lo to hi.
@@ -40,14 +32,14 @@ pub fn byte(s: &[u8], at: usize, lo: usize, hi: usize) -> Found
     Found::Byte(b, at + 1)
 }
 
-// n bytes from 0 to hi.
-pub fn bytes(s: &[u8], at: usize, n: usize, hi: usize) -> Skip
-    ensures { λ r. ⌜ r ≡ skipOf (Read.many (Read.byte 0 hi) n (now (s .entry)) at) ⌝ }
+// n temporaries.
+pub fn temporaries(s: &[u8], at: usize, n: usize) -> Skip
+    ensures { λ r. ⌜ r ≡ skipOf (Read.many Read.temporary n (now (s .entry)) at) ⌝ }
 {
     let mut left = n;
     let mut k = at;
     while 0 < left {
-        let next = match byte(s, k, 0, hi) {
+        let next = match byte(s, k, 0, 15) {
             Found::Byte(_, next) => next,
             Found::Wrong(p) => return Skip::Bad(p),
         };
@@ -57,12 +49,26 @@ pub fn bytes(s: &[u8], at: usize, n: usize, hi: usize) -> Skip
     Skip::At(k)
 }
 
-// A count from 0 to most, and that many bytes from 0 to hi.
-pub fn counted(s: &[u8], at: usize, most: usize, hi: usize) -> Skip
-    ensures { λ r. ⌜ r ≡ skipOf (Read.counted most (Read.byte 0 hi) (now (s .entry)) at) ⌝ }
+// n bytes of any value: only whether they are there is tested.
+pub fn pass(s: &[u8], at: usize, n: usize) -> Skip
+    ensures { λ r. ⌜ r ≡ skipOf (Read.many (Read.byte 0 255) n (now (s .entry)) at) ⌝ }
+{
+    if n == 0 {
+        return Skip::At(at);
+    }
+    if n <= bytes::left(s, at) {
+        Skip::At(at + n)
+    } else {
+        Skip::Bad(s.len())
+    }
+}
+
+// An argument list: a count from 0 to most, and that many temporaries.
+pub fn arguments(s: &[u8], at: usize, most: usize) -> Skip
+    ensures { λ r. ⌜ r ≡ skipOf (Read.counted most Read.temporary (now (s .entry)) at) ⌝ }
 {
     match byte(s, at, 0, most) {
-        Found::Byte(n, k) => bytes(s, k, n, hi),
+        Found::Byte(n, k) => temporaries(s, k, n),
         Found::Wrong(p) => Skip::Bad(p),
     }
 }
@@ -74,9 +80,9 @@ pub fn atom(s: &[u8], at: usize) -> Skip
     match byte(s, at, 0, 1) {
         Found::Byte(kind, k) => {
             if kind == 0 {
-                bytes(s, k, 4, 255)
+                pass(s, k, 4)
             } else {
-                bytes(s, k, 1, 15)
+                temporaries(s, k, 1)
             }
         }
         Found::Wrong(p) => Skip::Bad(p),
@@ -99,20 +105,11 @@ pub fn atoms(s: &[u8], at: usize, n: usize) -> Skip
     Skip::At(k)
 }
 
-// How many operands an expression of each kind has.
-const OPERANDS: [usize; 4] = [1, 1, 2, 2];
-
-pub fn operands(kind: usize) -> usize
-    ensures { λ r. ⌜ r ≡ operandsOf kind ⌝ }
-{
-    if kind < 4 { OPERANDS[kind] } else { 0 }
-}
-
 pub fn expression(s: &[u8], at: usize) -> Skip
     ensures { λ r. ⌜ r ≡ skipOf (Read.expression (now (s .entry)) at) ⌝ }
 {
     match byte(s, at, 0, 3) {
-        Found::Byte(kind, k) => atoms(s, k, operands(kind)),
+        Found::Byte(kind, k) => atoms(s, k, bytes::operands(kind)),
         Found::Wrong(p) => Skip::Bad(p),
     }
 }
@@ -156,9 +153,9 @@ pub fn code(s: &[u8], at: usize) -> Skip
 pub fn spawn_call(s: &[u8], at: usize) -> Skip
     ensures { λ r. ⌜ r ≡ skipOf (Read.spawnCall (now (s .entry)) at) ⌝ }
 {
-    match byte(s, at, 0, 255) {
-        Found::Byte(_, k) => counted(s, k, 8, 15),
-        Found::Wrong(p) => Skip::Bad(p),
+    match pass(s, at, 1) {
+        Skip::At(k) => arguments(s, k, 8),
+        Skip::Bad(p) => Skip::Bad(p),
     }
 }
 
@@ -167,7 +164,7 @@ pub fn branch(s: &[u8], at: usize) -> Skip
     ensures { λ r. ⌜ r ≡ skipOf (Read.if (now (s .entry)) at) ⌝ }
 {
     match expression(s, at) {
-        Skip::At(k) => bytes(s, k, 2, 255),
+        Skip::At(k) => pass(s, k, 2),
         Skip::Bad(p) => Skip::Bad(p),
     }
 }
@@ -177,7 +174,7 @@ pub fn call(s: &[u8], at: usize) -> Skip
     ensures { λ r. ⌜ r ≡ skipOf (Read.call (now (s .entry)) at) ⌝ }
 {
     match spawn_call(s, at) {
-        Skip::At(k) => bytes(s, k, 1, 255),
+        Skip::At(k) => pass(s, k, 1),
         Skip::Bad(p) => Skip::Bad(p),
     }
 }
@@ -190,9 +187,9 @@ pub fn transfer_of(s: &[u8], at: usize, kind: usize) -> Skip
         0 => spawn_call(s, at),
         1 => branch(s, at),
         2 => call(s, at),
-        3 => counted(s, at, 4, 15),
-        4 => bytes(s, at, 2, 255),
-        5 => bytes(s, at, 2, 255),
+        3 => arguments(s, at, 4),
+        4 => pass(s, at, 2),
+        5 => pass(s, at, 2),
         _ => Skip::Bad(at),
     }
 }
@@ -206,18 +203,28 @@ pub fn transfer(s: &[u8], at: usize) -> Skip
     }
 }
 
+// A nesting: a count from 0 to 4, and that many spawn calls' numbers.
+pub fn nesting(s: &[u8], at: usize) -> Skip
+    ensures { λ r. ⌜ r ≡ skipOf (Read.counted 4 Read.name (now (s .entry)) at) ⌝ }
+{
+    match byte(s, at, 0, 4) {
+        Found::Byte(n, k) => pass(s, k, n),
+        Found::Wrong(p) => Skip::Bad(p),
+    }
+}
+
 pub fn head(s: &[u8], at: usize) -> Skip
     ensures { λ r. ⌜ r ≡ skipOf (Read.head (now (s .entry)) at) ⌝ }
 {
-    let scope = match counted(s, at, 8, 15) {
+    let scope = match arguments(s, at, 8) {
         Skip::At(k) => k,
         Skip::Bad(p) => return Skip::Bad(p),
     };
-    let nesting = match bytes(s, scope, 2, 255) {
+    let k = match pass(s, scope, 2) {
         Skip::At(k) => k,
         Skip::Bad(p) => return Skip::Bad(p),
     };
-    counted(s, nesting, 4, 255)
+    nesting(s, k)
 }
 
 pub fn block(s: &[u8], at: usize) -> Skip

@@ -26,9 +26,7 @@ pub fn sized(s: &[u8]) -> bool
     if 16384 < s.len() {
         return false;
     }
-    let high = words::half(s[0], s[1]);
-    let low = words::half(s[2], s[3]);
-    words::word(high, low) as usize == s.len()
+    bytes::word(s, 0) as usize == s.len()
 }
 
 // Reads a table. Where it reads, the places are those of its program.
@@ -47,7 +45,7 @@ fn body(s: &[u8], places: &mut [u16; 656]) -> Reading
     requires { ⌜ Read.sized (now s) ≡ true ⌝ }
     ensures { λ r. ⌜ (readingOf r ≡ outcome (Calls.read (now (s .entry)))) × PlacedBy (now (s .entry)) (now (places .exit)) (Calls.read (now (s .entry))) ⌝ }
 {
-    if grammar::get(s, 4) != 1 {
+    if bytes::byte(s, 4) != 1 {
         return Reading::Version;
     }
     walk::clear(places);

@@ -1,28 +1,28 @@
 -- What stands at a place: a head, a signature, a spawn call; and what the lookups find, from the places.
-use Prim.Native.Nat.{ℕ, zero, suc, _+_, _*_, _-_, _≤_, _<_}
-use mathlib.Core.Path.{_≡_, refl, sym, _∙_, ap, subst}
-use mathlib.Core.Logic.{_⊎_, inl, inr}
-use mathlib.Core.Bool.{Bool, true, false, _&&_}
-use mathlib.Core.Option.{Option, none, some, Option·map}
-use mathlib.Core.List.{List, [], _∷_, _++_}
+use Prim.Native.Nat.{ℕ, zero, suc, _+_, _-_, _≤_, _<_}
+use mathlib.Core.Path.{_≡_, sym, _∙_, ap, subst}
+use mathlib.Core.Logic.{inl, inr}
+use mathlib.Core.Option.{Option, some, Option·map}
+use mathlib.Core.List.{List}
 use native.Mathlib.Omega.{arith}
-use lib.ListN.{length, getD, getElem?, take}
+use lib.ListN.{length, getD, getElem?}
 use Rattle.model.specs.Syntax.{Head, Block, SpawnCall, Signature, Function, Program}
 use Rattle.model.specs.Read as Read
-use Rattle.model.specs.Read.{Parsed, next, byte, many, counted}
+use Rattle.model.specs.Read.{Parsed, byte, many, counted}
 use Rattle.model.specs.Pool.{blockIn}
 use Rattle.model.specs.WellFormed.{env, headOf, signatureOf}
 use Rattle.model.proofs.Reading.{next-ok, ok-value, ok-offset, byte-ok, many-uncons, counted-ok}
 use Rattle.places.specs.declared.Place.{Place}
 use Rattle.places.specs.declared.Place.the-variants.{At, Nowhere}
-use Rattle.places.specs.Places.{Reads, Places, Found, spawnIn, FindsFunction, FindsBlock, FindsSpawn}
-use Rattle.walks.proofs.Parts.{temporary-ok, name-ok, half-ok, many-none}
+use Rattle.places.specs.Places.{Reads, Found, spawnIn, FindsFunction, FindsBlock, FindsSpawn}
+use Rattle.bytes.specs.Bytes.{halfAt}
+use Rattle.bytes.proofs.Numbers.{half-ok}
+use Rattle.walks.proofs.Parts.{temporary-ok, name-ok, many-none}
 use Rattle.transfers.specs.declared.Opening.{Opening}
-use Rattle.transfers.specs.declared.Target.{Target}
 use Rattle.transfers.specs.declared.Target.the-variants.{There, Missing}
 use Rattle.transfers.specs.declared.Callee.{Callee}
 use Rattle.transfers.specs.declared.Callee.the-variants.{Takes, Unknown}
-use Rattle.transfers.specs.Targets.{Within, Nest, IsHead, Opens, TargetIs, Targets, signature, CalleeIs, Callees, SpawnedIs, Spawns}
+use Rattle.transfers.specs.Targets.{Within, Opens, Targets, signature, CalleeIs, Callees, SpawnedIs, Spawns}
 
 -- n temporaries, and n names, are n bytes
 pub temporaries-end : (n : ℕ) (s : List ℕ) (at : ℕ) {xs : List ℕ} {k : ℕ} → many Read.temporary n s at ≡ Parsed.ok xs k → k ≡ at + n
@@ -46,7 +46,7 @@ record Headed (s : List ℕ) (at : ℕ) (H : Head) (e : ℕ) : Type 0 where
   inside : at < length s
   count : getD s at 0 ≡ length (H .parameters)
   parameters : Reads (many Read.temporary (length (H .parameters))) s (at + 1) (H .parameters)
-  scope : H .scope ≡ getD s (at + 1 + length (H .parameters)) 0 * 256 + getD s (at + 1 + length (H .parameters) + 1) 0
+  scope : H .scope ≡ halfAt s (at + 1 + length (H .parameters))
   depth : getD s (at + 1 + length (H .parameters) + 2) 0 ≡ length (H .nesting)
   nesting : many Read.name (length (H .nesting)) s (at + 1 + length (H .parameters) + 3) ≡ Parsed.ok (H .nesting) e
 
@@ -55,15 +55,15 @@ unfolding Read.arguments
 headed s at x̄ Γ ρ {i} {j} {e} p q r =
     let (b, m) = counted-ok 8 Read.temporary s at p in
     let end : i ≡ at + 1 + length x̄ = temporaries-end (length x̄) s (at + 1) m in
-    let (g, k, _) = half-ok s i q in
+    let g = half-ok s i q in
     let (c, w) = counted-ok 4 Read.name s j r in
-    let end2 : j ≡ at + 1 + length x̄ + 2 = omega arith in
+    let end2 : j ≡ at + 1 + length x̄ + 2 = omega (arith, g .behind) in
     let end3 : j + 1 ≡ at + 1 + length x̄ + 3 = omega arith in
     record {
       inside = b .inside;
       count = b .is;
       parameters = record { behind = i; is = m };
-      scope = rw (← end) g;
+      scope = rw (← end) (g .is);
       depth = rw (← end2) (c .is);
       nesting = rw (← end3) w;
     }
@@ -82,18 +82,16 @@ module _ (s : List ℕ) (at : ℕ) where
   pub head-past : (h : Opening) → length s ≤ at → Opens s at h
   head-past h l H e p = let d = head-ok s at p in absurd (omega (arith, d .inside))
 
-  pub head-read : (count a b scope depth : ℕ) → count ≡ getD s at 0 → a ≡ getD s (at + 1 + count) 0 → b ≡ getD s (at + 1 + count + 1) 0 → scope ≡ a * 256 + b → depth ≡ getD s (at + 1 + count + 2) 0 → Opens s at (record { count = count; parameters = at + 1; scope = scope; depth = depth; nesting = at + 1 + count + 3; behind = at + 1 + count + 3 + depth })
-  head-read count a b scope depth n x y Γ d H e p =
+  pub head-read : (count scope depth : ℕ) → count ≡ getD s at 0 → scope ≡ halfAt s (at + 1 + count) → depth ≡ getD s (at + 1 + count + 2) 0 → Opens s at (record { count = count; parameters = at + 1; scope = scope; depth = depth; nesting = at + 1 + count + 3; behind = at + 1 + count + 3 + depth })
+  head-read count scope depth n Γ d H e p =
       let h = head-ok s at p in
       let is : count ≡ length (H .parameters) = n ∙ h .count in
       let deep : depth ≡ length (H .nesting) = d ∙ ap (λ (k : ℕ). getD s (at + 1 + k + 2) 0) is ∙ h .depth in
-      let low : a ≡ getD s (at + 1 + length (H .parameters)) 0 = x ∙ ap (λ (k : ℕ). getD s (at + 1 + k) 0) is in
-      let high : b ≡ getD s (at + 1 + length (H .parameters) + 1) 0 = y ∙ ap (λ (k : ℕ). getD s (at + 1 + k + 1) 0) is in
       let names : many Read.name depth s (at + 1 + count + 3) ≡ Parsed.ok (H .nesting) e = rw (deep, is) (h .nesting) in (
         record {
           count = sym is;
           parameters = rw is (h .parameters);
-          scope = Γ ∙ ap (λ (k : ℕ). k * 256 + b) low ∙ ap (λ (k : ℕ). getD s (at + 1 + length (H .parameters)) 0 * 256 + k) high ∙ sym (h .scope);
+          scope = Γ ∙ ap (λ (k : ℕ). halfAt s (at + 1 + k)) is ∙ sym (h .scope);
           nesting = record { behind = e; is = names };
         },
         sym (names-end depth s (at + 1 + count + 3) names),

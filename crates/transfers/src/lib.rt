@@ -58,10 +58,10 @@ pub fn head_at(s: &[u8], at: usize) -> Opening
             behind: 0,
         };
     }
-    let count = walks::byte(s, at);
+    let count = bytes::byte(s, at);
     let q = at + 1 + (count as usize);
-    let scope = words::half(walks::byte(s, q), walks::byte(s, q + 1));
-    let depth = walks::byte(s, q + 2);
+    let scope = bytes::half(s, q);
+    let depth = bytes::byte(s, q + 2);
     Opening {
         count: count,
         parameters: at + 1,
@@ -88,7 +88,7 @@ pub fn function_of(s: &[u8], places: &[u16; 656], g: usize) -> Callee
 {
     match places::function(places, g) {
         Place::Nowhere => Callee::Unknown,
-        Place::At(at) => Callee::Takes(walks::byte(s, at), walks::item(s, at, 1)),
+        Place::At(at) => Callee::Takes(bytes::byte(s, at), bytes::item(s, at, 1)),
     }
 }
 
@@ -98,7 +98,7 @@ fn spawned_by(s: &[u8], places: &[u16; 656], f: usize, k: u8) -> Callee
 {
     match places::spawn(places, f, k as usize) {
         Place::Nowhere => Callee::Unknown,
-        Place::At(at) => function_of(s, places, walks::byte(s, at) as usize),
+        Place::At(at) => function_of(s, places, bytes::byte(s, at) as usize),
     }
 }
 
@@ -122,7 +122,7 @@ fn adds(s: &[u8], h: Opening, at: usize, n: u8, x: u8) -> bool
     }
     if h.depth - n == 1 {
         if walks::same(s, h.nesting, at, n) {
-            walks::item(s, h.nesting, n) == x
+            bytes::item(s, h.nesting, n) == x
         } else {
             false
         }
@@ -205,9 +205,9 @@ fn go(s: &[u8], places: &[u16; 656], here: Here, at: usize) -> Verdict
 {
     match walks::arguments(s, at + 1, here.bound) {
         Seen::Unbound => Verdict::Fault(8),
-        Seen::Bound(_) => match block_of(s, places, here.f, walks::byte(s, at)) {
+        Seen::Bound(_) => match block_of(s, places, here.f, bytes::byte(s, at)) {
             Target::Missing => Verdict::Fault(6),
-            Target::There(h) => one(s, here, h, walks::byte(s, at + 1)),
+            Target::There(h) => one(s, here, h, bytes::byte(s, at + 1)),
         },
     }
 }
@@ -218,9 +218,9 @@ fn branch(s: &[u8], places: &[u16; 656], here: Here, at: usize) -> Verdict
 {
     match walks::expression(s, at, here.bound) {
         Seen::Unbound => Verdict::Fault(8),
-        Seen::Bound(k) => match block_of(s, places, here.f, walks::byte(s, k)) {
+        Seen::Bound(k) => match block_of(s, places, here.f, bytes::byte(s, k)) {
             Target::Missing => Verdict::Fault(6),
-            Target::There(h) => match block_of(s, places, here.f, walks::item(s, k, 1)) {
+            Target::There(h) => match block_of(s, places, here.f, bytes::item(s, k, 1)) {
                 Target::Missing => Verdict::Fault(6),
                 Target::There(j) => both(s, here, h, 0, j, 0),
             },
@@ -235,12 +235,12 @@ fn invoke(s: &[u8], places: &[u16; 656], here: Here, at: usize) -> Verdict
 {
     match walks::arguments(s, at + 1, here.bound) {
         Seen::Unbound => Verdict::Fault(8),
-        Seen::Bound(k) => match function_of(s, places, walks::byte(s, at) as usize) {
+        Seen::Bound(k) => match function_of(s, places, bytes::byte(s, at) as usize) {
             Callee::Unknown => Verdict::Fault(6),
-            Callee::Takes(n, m) => match block_of(s, places, here.f, walks::byte(s, k)) {
+            Callee::Takes(n, m) => match block_of(s, places, here.f, bytes::byte(s, k)) {
                 Target::Missing => Verdict::Fault(6),
                 Target::There(h) => {
-                    if walks::byte(s, at + 1) == n {
+                    if bytes::byte(s, at + 1) == n {
                         one(s, here, h, m)
                     } else {
                         Verdict::Fault(9)
@@ -260,7 +260,7 @@ fn leave(s: &[u8], places: &[u16; 656], here: Here, at: usize) -> Verdict
         Seen::Bound(_) => match function_of(s, places, here.f) {
             Callee::Unknown => Verdict::Fault(6),
             Callee::Takes(_, m) => {
-                if walks::byte(s, at) == m {
+                if bytes::byte(s, at) == m {
                     if here.depth == 0 {
                         Verdict::Fine
                     } else {
@@ -278,8 +278,8 @@ fn leave(s: &[u8], places: &[u16; 656], here: Here, at: usize) -> Verdict
 fn fork(s: &[u8], places: &[u16; 656], here: Here, at: usize) -> Verdict
     ensures { λ r. ⌜ Judges Read.spork (now (s .entry)) (now (places .entry)) here at r ⌝ }
 {
-    let x = walks::item(s, at, 1);
-    match block_of(s, places, here.f, walks::byte(s, at)) {
+    let x = bytes::item(s, at, 1);
+    match block_of(s, places, here.f, bytes::byte(s, at)) {
         Target::Missing => Verdict::Fault(6),
         Target::There(h) => match places::spawn(places, here.f, x as usize) {
             Place::Nowhere => Verdict::Fault(6),
@@ -292,16 +292,16 @@ fn fork(s: &[u8], places: &[u16; 656], here: Here, at: usize) -> Verdict
 fn join(s: &[u8], places: &[u16; 656], here: Here, at: usize) -> Verdict
     ensures { λ r. ⌜ Judges Read.spoin (now (s .entry)) (now (places .entry)) here at r ⌝ }
 {
-    match block_of(s, places, here.f, walks::byte(s, at)) {
+    match block_of(s, places, here.f, bytes::byte(s, at)) {
         Target::Missing => Verdict::Fault(6),
-        Target::There(h) => match block_of(s, places, here.f, walks::item(s, at, 1)) {
+        Target::There(h) => match block_of(s, places, here.f, bytes::item(s, at, 1)) {
             Target::Missing => Verdict::Fault(6),
             Target::There(k) => {
                 if here.depth == 0 {
                     return Verdict::Fault(11);
                 }
                 let front = here.depth - 1;
-                match spawned_by(s, places, here.f, walks::item(s, here.nesting, front)) {
+                match spawned_by(s, places, here.f, bytes::item(s, here.nesting, front)) {
                     Callee::Unknown => Verdict::Fault(6),
                     Callee::Takes(_, m) => {
                         let outer = Here {
@@ -325,7 +325,7 @@ pub fn transfer(s: &[u8], places: &[u16; 656], here: Here, at: usize) -> Verdict
     if s.len() <= at {
         return Verdict::Fine;
     }
-    match walks::byte(s, at) {
+    match bytes::byte(s, at) {
         0 => go(s, places, here, at + 1),
         1 => branch(s, places, here, at + 1),
         2 => invoke(s, places, here, at + 1),

@@ -1,42 +1,39 @@
 -- The laws that the check's proofs cite: the first fault of a part, from what the parts below it say.
-use Prim.Native.Nat.{ℕ, zero, suc, _+_, _*_, _-_, _≤_, _<_, _^_, _%_}
+use Prim.Native.Nat.{ℕ, _+_, _*_, _-_, _≤_, _<_, _^_, _%_}
 use mathlib.Core.Path.{_≡_, refl, sym, _∙_, ap, subst}
-use mathlib.Core.Bool.{Bool, true, false, not, _&&_, _||_}
+use mathlib.Core.Bool.{Bool, true, false, _&&_}
 use mathlib.Core.Option.{Option, none, some, Option·map}
 use mathlib.Core.List.{List, [], _∷_, _++_}
-use native.Mathlib.Numerals.{add-one}
 use native.Mathlib.Omega.{arith}
 use lib.Dec.{eqb}
 use lib.ListN.{length, getD, getElem?, drop}
 use Rattle.model.specs.Answers.{Refusal, Answer}
 use Rattle.model.specs.Lists.{all, equal}
 use Rattle.model.specs.Sets.{has, withAll, below}
-use Rattle.model.specs.Syntax.{Statement, Transfer, Head, Block, SpawnCall, Signature, Function, Program}
+use Rattle.model.specs.Syntax.{Statement, Block, SpawnCall, Signature, Function, Program}
 use Rattle.model.specs.Read as Read
-use Rattle.model.specs.Read.{Parsed, many, counted}
+use Rattle.model.specs.Read.{Parsed, counted}
 use Rattle.model.specs.Tests.{Tests, _then_, fault}
-use Rattle.model.specs.WellFormed.{Env, env, signatureOf}
+use Rattle.model.specs.WellFormed.{env, signatureOf}
 use Rattle.model.specs.Check as Check
-use Rattle.model.specs.Check.{Placed, firstFault, nowhere}
+use Rattle.model.specs.Check.{Placed, firstFault}
 use Rattle.model.specs.Limits.{InFunction}
-use Rattle.model.proofs.Facts.{eq-eqb, ne-eqb, each-at, none-some, some-injective, below-at}
-use Rattle.model.proofs.Reading.{next-ok, ok-value, ok-offset, counted-ok}
+use Rattle.model.proofs.Facts.{eq-eqb, ne-eqb, each-at, some-injective, below-at, past-at, drop-some, drop-none}
+use Rattle.model.proofs.Reading.{next-ok, ok-value, counted-ok}
 use Rattle.places.specs.declared.Place.{Place}
 use Rattle.places.specs.declared.Place.the-variants.{At, Nowhere}
 use Rattle.places.specs.Places.{Reads, Places, Found, FindsFunction, FindsBlock, FindsSpawn}
-use Rattle.places.proofs.Lookups.{past}
 use Rattle.walks.specs.declared.Seen.{Seen}
 use Rattle.walks.specs.declared.Seen.the-variants.{Bound, Unbound}
 use Rattle.walks.specs.declared.Walk.{Walk}
 use Rattle.walks.specs.declared.Walk.the-variants as walk
 use Rattle.walks.specs.Walks.{SeenAs, SeesList, WalkedAs, Walks, BoundAs, Binds}
-use Rattle.walks.proofs.Bits.{low}
+use Rattle.words.proofs.Sets.{low}
 use Rattle.walks.proofs.Parts.{name-ok, many-down, many-none}
 use Rattle.walks.proofs.Faults.{need-fails, need-holds, then-first, then-second, given-fails, given-goes, each-ends, each-first, each-second}
 use Rattle.transfers.specs.declared.Opening.{Opening}
 use Rattle.transfers.specs.declared.Callee.{Callee}
 use Rattle.transfers.specs.declared.Callee.the-variants.{Takes, Unknown}
-use Rattle.transfers.specs.declared.Here.{Here}
 use Rattle.transfers.specs.declared.Verdict.{Verdict}
 use Rattle.transfers.specs.declared.Verdict.the-variants.{Fine, Fault}
 use Rattle.transfers.specs.Targets as Targets
@@ -48,23 +45,7 @@ use Rattle.verifier.specs.declared.Ranked.{Ranked}
 use Rattle.verifier.specs.declared.Ranked.the-variants as ranked
 use Rattle.verifier.specs.declared.Judged.{Judged}
 use Rattle.verifier.specs.declared.Judged.the-variants as judged
-use Rattle.verifier.specs.Verdicts.{answerOf, rankedOf, follow, Nests, NestsAll, Entered, Enters, Spawns, SpawnsFrom, Codes, Blocks, BlocksFrom, FunctionsFrom, Judges}
-
--- what is left of a list from an index on
-module _ {A : Type 0} where
-  drop-some : (xs : List A) (i : ℕ) {x : A} → getElem? xs i ≡ some x → drop i xs ≡ x ∷ drop (i + 1) xs
-  drop-some xs i e = rw (add-one i) (go xs i e)
-    where
-      go : (xs : List A) (i : ℕ) {x : A} → getElem? xs i ≡ some x → drop i xs ≡ x ∷ drop (suc i) xs
-      go [] i e = none-some e
-      go (y ∷ xs) zero e = ap {B = List A} (λ z. z ∷ xs) (some-injective e)
-      go (y ∷ xs) (suc i) e = go xs i e
-
-  drop-none : (xs : List A) (i : ℕ) → getElem? xs i ≡ none → drop i xs ≡ []
-  drop-none [] zero e = refl
-  drop-none [] (suc i) e = refl
-  drop-none (y ∷ xs) zero e = none-some (sym e)
-  drop-none (y ∷ xs) (suc i) e = drop-none xs i e
+use Rattle.verifier.specs.Verdicts.{rankedOf, follow, Nests, NestsAll, Entered, Enters, Spawns, SpawnsFrom, Codes, Blocks, BlocksFrom, FunctionsFrom, Judges}
 
 -- function f keeps to the limits
 limits : {s places : List ℕ} {f : ℕ} {P : Program} {F : Function} → Within s places f P F → InFunction F
@@ -231,7 +212,7 @@ module _ (s places : List ℕ) (f k : ℕ) where
   pub spawns-end : 8 ≤ k → SpawnsFrom s places f k Fine
   spawns-end l P F W =
       let few : length (F .spawns) ≤ 8 = limits W .fewSpawns in
-      spawns-over P F (drop-none (F .spawns) k (past (F .spawns) k (omega arith)))
+      spawns-over P F (drop-none (F .spawns) k (past-at (F .spawns) k (omega arith)))
 
   module _ {r : Place} (find : FindsSpawn places f k r) where
     pub spawns-none : r ≡ Nowhere → SpawnsFrom s places f k Fine
@@ -372,7 +353,7 @@ module _ (s places : List ℕ) (f b : ℕ) where
   pub blocks-end : 32 ≤ b → BlocksFrom s places f b ranked.Clean
   blocks-end l P F a W =
       let few : length (F .blocks) ≤ 32 = limits W .fewBlocks in
-      blocks-over P F a (drop-none (F .blocks) b (past (F .blocks) b (omega arith)))
+      blocks-over P F a (drop-none (F .blocks) b (past-at (F .blocks) b (omega arith)))
 
   module _ {r : Place} (find : FindsBlock places f b r) where
     pub blocks-none : r ≡ Nowhere → BlocksFrom s places f b ranked.Clean
@@ -399,7 +380,7 @@ module _ (s places : List ℕ) (f : ℕ) where
   pub functions-end : 16 ≤ f → FunctionsFrom s places f judged.Accepted
   functions-end l P I =
       let few : length P ≤ 16 = I .limits .few in
-      functions-over P (drop-none P f (past P f (omega arith)))
+      functions-over P (drop-none P f (past-at P f (omega arith)))
 
   module _ {r : Place} (find : FindsFunction places f r) where
     pub functions-none : r ≡ Nowhere → FunctionsFrom s places f judged.Accepted

@@ -10,6 +10,7 @@ use walks::Seen;
 use walks::Walk;
 ghost use mathlib.Core.Path.{_≡_};
 ghost use Rattle.model.specs.Calls as Calls;
+ghost use Rattle.table.specs.Reading.{PlacedBy};
 ghost use Rattle.verifier.specs.Answers.{checkedOf};
 ghost use Rattle.verifier.specs.Verdicts.{Nests, NestsAll, Entered, Enters, Spawns, SpawnsFrom, Codes, Blocks, BlocksFrom, FunctionsFrom, Judges};
 
@@ -63,7 +64,7 @@ fn nests_all(s: &[u8], places: &[u16; 656], f: usize, at: usize, n: u8, scope: u
         if s.len() <= k {
             return Verdict::Fine;
         }
-        match nests(s, places, f, walks::byte(s, k), scope) {
+        match nests(s, places, f, bytes::byte(s, k), scope) {
             Verdict::Fault(m) => return Verdict::Fault(m),
             Verdict::Fine => {
                 k += 1;
@@ -111,10 +112,10 @@ fn enters(s: &[u8], places: &[u16; 656], f: usize, b: usize, h: Opening) -> bool
 fn spawns(s: &[u8], places: &[u16; 656], at: usize) -> Verdict
     ensures { λ r. ⌜ Spawns (now (s .entry)) (now (places .entry)) at r ⌝ }
 {
-    match transfers::function_of(s, places, walks::byte(s, at) as usize) {
+    match transfers::function_of(s, places, bytes::byte(s, at) as usize) {
         Callee::Unknown => Verdict::Fault(6),
         Callee::Takes(n, _) => {
-            if walks::item(s, at, 1) == n {
+            if bytes::item(s, at, 1) == n {
                 Verdict::Fine
             } else {
                 Verdict::Fault(9)
@@ -150,7 +151,7 @@ fn codes(s: &[u8], places: &[u16; 656], f: usize, h: Opening, set: u16) -> Verdi
     if s.len() <= at {
         return Verdict::Fine;
     }
-    match walks::statements(s, at + 1, walks::byte(s, at), set) {
+    match walks::statements(s, at + 1, bytes::byte(s, at), set) {
         Walk::Fault(m) => Verdict::Fault(m),
         Walk::Done(bound, k) => {
             let here = Here {
@@ -239,19 +240,26 @@ pub fn judge(s: &[u8], places: &[u16; 656]) -> Judged
     }
 }
 
+// The check of a table, which leaves its places where it reads.
+pub fn check_placed(s: &[u8], places: &mut [u16; 656]) -> Checked
+    ensures { λ r. ⌜ (checkedOf r ≡ Calls.check (now (s .entry))) × PlacedBy (now (s .entry)) (now (places .exit)) (Calls.read (now (s .entry))) ⌝ }
+{
+    match table::read(s, places) {
+        Reading::Size => Checked::Size,
+        Reading::Version => Checked::Version,
+        Reading::Byte(place) => Checked::Form(place),
+        Reading::Fine => match judge(s, places) {
+            Judged::Accepted => Checked::Accepted,
+            Judged::Fault(n, f, b) => Checked::Fault(n, f, b),
+        },
+    }
+}
+
 // The check of a table. What its answer means is the law `means` of proofs/Meaning: accepted exactly where the table reads to
 // a well-formed program, and otherwise the first fault in order.
 pub fn check(s: &[u8]) -> Checked
     ensures { λ r. ⌜ checkedOf r ≡ Calls.check (now (s .entry)) ⌝ }
 {
-    let mut index = [0u16; 656];
-    match table::read(s, &mut index) {
-        Reading::Size => Checked::Size,
-        Reading::Version => Checked::Version,
-        Reading::Byte(place) => Checked::Form(place),
-        Reading::Fine => match judge(s, &index) {
-            Judged::Accepted => Checked::Accepted,
-            Judged::Fault(n, f, b) => Checked::Fault(n, f, b),
-        },
-    }
+    let mut places = [0u16; 656];
+    check_placed(s, &mut places)
 }

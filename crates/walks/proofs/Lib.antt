@@ -1,4 +1,3 @@
-pub mod Bits
 pub mod Parts
 pub mod Faults
 pub mod Says

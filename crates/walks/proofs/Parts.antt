@@ -1,20 +1,18 @@
 -- What reading at an offset finds, part by part: the bytes that are the value, and the offset behind it.
-use Prim.Native.Nat.{ℕ, zero, suc, _+_, _*_, _-_, _≤_, _<_}
-use mathlib.Core.Path.{_≡_, refl, sym, _∙_, ap, subst}
+use Prim.Native.Nat.{ℕ, zero, suc, _+_, _-_, _≤_, _<_}
+use mathlib.Core.Path.{_≡_, refl, sym, _∙_, ap}
 use mathlib.Core.Bool.{Bool, true, false, _&&_}
 use mathlib.Core.List.{List, [], _∷_, _++_}
 use native.Mathlib.Nat.{not-suc-le-zero}
 use native.Mathlib.Omega.{arith}
-use lib.ListN.{length, getD, List·getD-eq-default}
+use lib.ListN.{length, getD}
 use Rattle.model.specs.Lists.{all}
 use Rattle.model.specs.Syntax.{Atom, Expression, Statement, usesAtom, uses}
 use Rattle.model.specs.Read as Read
-use Rattle.model.specs.Read.{Parsed, Parser, next, byte, many, counted, pick}
-use Rattle.model.proofs.Reading.{next-ok, ok-value, ok-offset, bad-ok, Byte, byte-ok, Uncons, many-uncons, no-byte}
-
--- past the end there are zeros
-pub past : (s : List ℕ) (n : ℕ) → length s ≤ n → 0 ≡ getD s n 0
-past s n h = sym (List·getD-eq-default s 0 {n = n} h)
+use Rattle.model.specs.Read.{Parsed, Parser, byte, many, pick}
+use Rattle.bytes.specs.Bytes.{operands}
+use Rattle.bytes.proofs.Numbers.{word-ok}
+use Rattle.model.proofs.Reading.{next-ok, ok-value, ok-offset, Byte, byte-ok, Uncons, many-uncons}
 
 -- single bytes
 pub temporary-ok : (s : List ℕ) (at : ℕ) {x k : ℕ} → Read.temporary s at ≡ Parsed.ok x k → Byte 0 15 s at x k
@@ -24,30 +22,6 @@ temporary-ok s at e = byte-ok 0 15 s at _ _ e
 pub name-ok : (s : List ℕ) (at : ℕ) {x k : ℕ} → Read.name s at ≡ Parsed.ok x k → Byte 0 255 s at x k
 unfolding Read.name
 name-ok s at e = byte-ok 0 255 s at _ _ e
-
--- a number of two bytes
-pub half-ok : (s : List ℕ) (at : ℕ) {n k : ℕ} → Read.half s at ≡ Parsed.ok n k → (n ≡ getD s at 0 * 256 + getD s (at + 1) 0) × (k ≡ at + 2) × (at < length s)
-unfolding Read.half
-half-ok s at e =
-    let a = next-ok (byte 0 255 s at) _ e in
-    let A = byte-ok 0 255 s at _ _ (a .first) in
-    let b = next-ok (byte 0 255 s (a .between)) _ (a .then) in
-    let B = byte-ok 0 255 s (a .between) _ _ (b .first) in
-    let is : getD s (at + 1) 0 ≡ b .value = rw (← A .behind) (B .is) in (
-      sym (ok-value (b .then)) ∙ ap (λ (x : ℕ). x * 256 + b .value) (sym (A .is)) ∙ ap (λ (x : ℕ). getD s at 0 * 256 + x) (sym is),
-      sym (ok-offset (b .then)) ∙ B .behind ∙ ap (λ (x : ℕ). x + 1) (A .behind) ∙ omega arith,
-      A .inside,
-    )
-
-word-ends : (s : List ℕ) (at : ℕ) {n k : ℕ} → Read.word s at ≡ Parsed.ok n k → k ≡ at + 4
-unfolding Read.word
-word-ends s at {n} {k} e =
-    let a = next-ok (Read.half s at) _ e in
-    let b = next-ok (Read.half s (a .between)) _ (a .then) in
-    let p : a .between ≡ at + 2 = half-ok s at (a .first) .1 in
-    let q : b .between ≡ a .between + 2 = half-ok s (a .between) (b .first) .1 in
-    let r : b .between ≡ k = ok-offset (b .then) in
-    omega arith
 
 -- an atom: its kind, and then a value or a temporary
 module _ (s : List ℕ) (at : ℕ) {m : Atom} {k : ℕ} (e : Read.atom s at ≡ Parsed.ok m k) where
@@ -66,9 +40,9 @@ module _ (s : List ℕ) (at : ℕ) {m : Atom} {k : ℕ} (e : Read.atom s at ≡ 
   unfolding pick Read.value usesAtom
   atom-value z =
       let a = next-ok (Read.word s (at + 1)) _ (kind 0 z .2) in
-      let p : a .between ≡ at + 1 + 4 = word-ends s (at + 1) (a .first) in
+      let p = word-ok s (at + 1) (a .first) in
       let q : a .between ≡ k = ok-offset (a .then) in
-      (ap usesAtom (sym (ok-value (a .then))), omega arith)
+      (ap usesAtom (sym (ok-value (a .then))), omega (arith, p .behind))
 
   pub atom-variable : (getD s at 0 ≡ 0 → ⊥) → (usesAtom m ≡ getD s (at + 1) 0 ∷ []) × (k ≡ at + 2) × (getD s (at + 1) 0 < 16)
   unfolding pick Read.variable usesAtom
@@ -81,7 +55,7 @@ module _ (s : List ℕ) (at : ℕ) {m : Atom} {k : ℕ} (e : Read.atom s at ≡ 
       let i : getD s (at + 1) 0 ≡ a .value = A .is in
       (ap usesAtom (sym (ok-value (a .then))) ∙ ap {B = List ℕ} (λ x. x ∷ []) (sym i), omega (arith, A .behind), omega arith)
 
--- an expression: its kind, an atom, and where the kind is 2 or 3 another
+-- an expression: its kind, an atom, and where the kind has two operands another
 pub record One (s : List ℕ) (at : ℕ) (x : Expression) (k : ℕ) : Type 0 where
   pub first : Atom
   pub is : Read.atom s (at + 1) ≡ Parsed.ok first k
@@ -131,20 +105,20 @@ module _ (s : List ℕ) (at : ℕ) {x : Expression} {k : ℕ} (e : Read.expressi
   pub expression-inside : at < length s
   expression-inside = form (getD s at 0) refl .1
 
-  pub expression-one : getD s at 0 < 2 → One s at x k
-  unfolding pick uses
+  pub expression-one : (operands (getD s at 0) ≡ 2 → ⊥) → One s at x k
+  unfolding pick uses operands
   expression-one h = go (getD s at 0) refl h
     where
-      go : (v : ℕ) → getD s at 0 ≡ v → v < 2 → One s at x k
+      go : (v : ℕ) → getD s at 0 ≡ v → (operands v ≡ 2 → ⊥) → One s at x k
       go zero z h = one Expression.atom s at (λ m. refl) (form 0 z .2)
       go (suc zero) z h = one Expression.minus s at (λ m. refl) (form 1 z .2)
-      go (suc (suc v)) z h = absurd (omega arith)
+      go (suc (suc v)) z h = absurd (h refl)
 
-  pub expression-two : 2 ≤ getD s at 0 → Two s at x k
-  unfolding pick uses
+  pub expression-two : operands (getD s at 0) ≡ 2 → Two s at x k
+  unfolding pick uses operands
   expression-two h = go (getD s at 0) refl h
     where
-      go : (v : ℕ) → getD s at 0 ≡ v → 2 ≤ v → Two s at x k
+      go : (v : ℕ) → getD s at 0 ≡ v → operands v ≡ 2 → Two s at x k
       go zero z h = absurd (omega arith)
       go (suc zero) z h = absurd (omega arith)
       go (suc (suc zero)) z h = two Expression.plus s at (λ m n. refl) (form 2 z .2)

@@ -1,29 +1,29 @@
 -- The laws that the walks' proofs cite: what an answer says, from what the parts say.
-use Prim.Native.Nat.{ℕ, zero, suc, _+_, _-_, _≤_, _<_}
+use Prim.Native.Nat.{ℕ, _+_, _-_, _≤_, _<_}
 use mathlib.Core.Path.{_≡_, refl, sym, _∙_, ap, subst}
 use mathlib.Core.Bool.{Bool, true, false, not, _&&_}
 use mathlib.Core.Option.{Option, none, some}
-use mathlib.Core.Logic.{_⊎_, inl, inr}
-use mathlib.Core.List.{List, [], _∷_, _++_}
+use mathlib.Core.List.{List, _∷_}
 use native.Mathlib.Omega.{arith}
 use lib.Dec.{eqb}
 use lib.ListN.{length, getD}
 use Rattle.model.specs.Numbers as No
 use Rattle.model.specs.Lists.{all, equal}
 use Rattle.model.specs.Sets.{has, with, withAll}
-use Rattle.model.specs.Syntax.{Atom, Expression, Statement, Transfer, usesAtom, uses}
+use Rattle.model.specs.Syntax.{Atom, Statement, Transfer, usesAtom, uses}
 use Rattle.model.specs.Read as Read
-use Rattle.model.specs.Read.{Parsed, many, counted}
+use Rattle.model.specs.Read.{Parsed, many}
 use Rattle.model.specs.Tests.{Tests, _then_, or, fault}
 use Rattle.model.specs.WellFormed.{Env}
 use Rattle.model.specs.Check as Check
-use Rattle.model.proofs.Facts.{eq-eqb, ne-eqb, none-some}
+use Rattle.model.proofs.Facts.{eq-eqb, ne-eqb, eqb-true, eqb-false, none-some}
 use Rattle.model.proofs.Reading.{counted-ok}
+use Rattle.bytes.specs.Bytes.{operands}
 use Rattle.walks.specs.declared.Seen.{Seen}
 use Rattle.walks.specs.declared.Seen.the-variants.{Bound, Unbound}
 use Rattle.walks.specs.declared.Walk.{Walk}
 use Rattle.walks.specs.declared.Walk.the-variants.{Done, Fault}
-use Rattle.walks.specs.Walks.{SeenAs, SeesAtom, SeesExpression, SeesAll, SeesList, ofStatement, SteppedAs, Steps, WalkedAs, Walks, BoundAs, Binds, Same}
+use Rattle.walks.specs.Walks.{SeesAtom, SeesExpression, SeesAll, SeesList, ofStatement, Steps, WalkedAs, Walks, Binds, Same}
 use Rattle.walks.proofs.Parts.{temporary-ok, name-ok, atom-inside, atom-value, atom-variable, expression-inside, expression-one, expression-two, statement-ok, many-down, many-none, all-append}
 use Rattle.walks.proofs.Faults.{need-fails, need-holds, then-first, then-second, not-of-true, not-of-false}
 
@@ -70,37 +70,37 @@ module _ (s : List ℕ) (at Γ : ℕ) where
   expression-past h x e p = let i = expression-inside s at p in absurd (omega arith)
 
   pub expression-out : {r : Seen} → SeesAtom s (at + 1) Γ r → r ≡ Unbound → SeesExpression s at Γ Unbound
-  expression-out {r} h u x e p = go (leb-or (getD s at 0))
+  expression-out {r} h u x e p = go (eqb (operands (getD s at 0)) 2) refl
     where
       seen : SeesAtom s (at + 1) Γ Unbound
       seen = subst (SeesAtom s (at + 1) Γ) u h
 
-      leb-or : (n : ℕ) → (n < 2) ⊎ (2 ≤ n)
-      leb-or zero = inl (omega arith)
-      leb-or (suc zero) = inl (omega arith)
-      leb-or (suc (suc n)) = inr (omega arith)
-
-      go : (getD s at 0 < 2) ⊎ (2 ≤ getD s at 0) → all (has Γ) (uses x) ≡ false
-      go (inl l) = let O = expression-one s at p l in rw (O .uses) (seen (O .first) e (O .is))
-      go (inr l) =
-          let O = expression-two s at p l in
+      go : (b : Bool) → eqb (operands (getD s at 0)) 2 ≡ b → all (has Γ) (uses x) ≡ false
+      go true l =
+          let O = expression-two s at p (eqb-true _ 2 l) in
           rw (O .uses)
           (all-append (has Γ) (usesAtom (O .first)) (usesAtom (O .second)) ∙ and-false _ _ (seen (O .first) (O .between) (O .is)))
+      go false l = let O = expression-one s at p (eqb-false _ 2 l) in rw (O .uses) (seen (O .first) e (O .is))
 
-  pub expression-in : {r : Seen} {k : ℕ} → SeesAtom s (at + 1) Γ r → r ≡ Bound k → getD s at 0 < 2 → SeesExpression s at Γ (Bound k)
-  expression-in {r} {k} h u l x e p =
-      let seen : SeesAtom s (at + 1) Γ (Bound k) = subst (SeesAtom s (at + 1) Γ) u h in
-      let O = expression-one s at p l in
-      rw (O .uses) (seen (O .first) e (O .is))
+  -- o operands, as the code has them
+  module _ {kind o : ℕ} (is : kind ≡ getD s at 0) (has-o : o ≡ operands kind) where
+    count : o ≡ operands (getD s at 0)
+    count = has-o ∙ ap operands is
 
-  pub expression-on : {r : Seen} (q : Seen) {k : ℕ} → SeesAtom s (at + 1) Γ r → r ≡ Bound k → 2 ≤ getD s at 0 → SeesAtom s k Γ q → SeesExpression s at Γ q
-  expression-on {r} q {k} h u l g x e p =
-      let seen : SeesAtom s (at + 1) Γ (Bound k) = subst (SeesAtom s (at + 1) Γ) u h in
-      let O = expression-two s at p l in
-      let (t, j) = seen (O .first) (O .between) (O .is) in
-      let same : all (has Γ) (uses x) ≡ all (has Γ) (usesAtom (O .second)) =
-      ap (all (has Γ)) (O .uses) ∙ all-append (has Γ) (usesAtom (O .first)) (usesAtom (O .second)) ∙ and-true _ _ t in
-      rw same (g (O .second) e (rw j (O .then)))
+    pub expression-in : {r : Seen} {k : ℕ} → SeesAtom s (at + 1) Γ r → r ≡ Bound k → (o ≡ 2 → ⊥) → SeesExpression s at Γ (Bound k)
+    expression-in {r} {k} h u l x e p =
+        let seen : SeesAtom s (at + 1) Γ (Bound k) = subst (SeesAtom s (at + 1) Γ) u h in
+        let O = expression-one s at p (λ z. l (count ∙ z)) in
+        rw (O .uses) (seen (O .first) e (O .is))
+
+    pub expression-on : {r : Seen} (q : Seen) {k : ℕ} → SeesAtom s (at + 1) Γ r → r ≡ Bound k → o ≡ 2 → SeesAtom s k Γ q → SeesExpression s at Γ q
+    expression-on {r} q {k} h u l g x e p =
+        let seen : SeesAtom s (at + 1) Γ (Bound k) = subst (SeesAtom s (at + 1) Γ) u h in
+        let O = expression-two s at p (sym count ∙ l) in
+        let (t, j) = seen (O .first) (O .between) (O .is) in
+        let same : all (has Γ) (uses x) ≡ all (has Γ) (usesAtom (O .second)) =
+        ap (all (has Γ)) (O .uses) ∙ all-append (has Γ) (usesAtom (O .first)) (usesAtom (O .second)) ∙ and-true _ _ t in
+        rw same (g (O .second) e (rw j (O .then)))
 
 -- lists of temporaries: the first, and the rest
 record First (s : List ℕ) (k n : ℕ) (x̄ : List ℕ) (e : ℕ) : Type 0 where

@@ -1,7 +1,6 @@
 // Walks over a table's bytes: total over any offset, each says something of what is read there, where something is.
 ghost use mathlib.Core.Path.{_≡_};
-ghost use Prim.Native.Nat.{_+_, _<_};
-ghost use lib.ListN.{getD};
+ghost use Prim.Native.Nat.{_<_};
 ghost use Rattle.model.specs.Sets.{has, with, within};
 ghost use Rattle.walks.specs.Walks.{SeesAtom, SeesExpression, SeesAll, SeesList, Steps, Walks, Binds, Same};
 
@@ -15,24 +14,6 @@ pub enum Seen {
 pub enum Walk {
     Done(u16, usize),
     Fault(u8),
-}
-
-// The byte at an offset, and 0 past the end.
-pub fn byte(s: &[u8], at: usize) -> u8
-    ensures { λ r. ⌜ r ≡ getD (now (s .entry)) at 0 ⌝ }
-{
-    if at < s.len() { s[at] } else { 0 }
-}
-
-// The byte i behind an offset.
-pub fn item(s: &[u8], at: usize, i: u8) -> u8
-    ensures { λ r. ⌜ r ≡ getD (now (s .entry)) (at + i) 0 ⌝ }
-{
-    if at < s.len() {
-        byte(s, at + (i as usize))
-    } else {
-        0
-    }
 }
 
 // Is x in the set?
@@ -66,7 +47,7 @@ fn atom(s: &[u8], at: usize, set: u16) -> Seen
     if s[at] == 0 {
         return Seen::Bound(at + 5);
     }
-    if holds(set, byte(s, at + 1)) {
+    if holds(set, bytes::byte(s, at + 1)) {
         Seen::Bound(at + 2)
     } else {
         Seen::Unbound
@@ -83,10 +64,10 @@ pub fn expression(s: &[u8], at: usize, set: u16) -> Seen
     match atom(s, at + 1, set) {
         Seen::Unbound => Seen::Unbound,
         Seen::Bound(k) => {
-            if byte(s, at) < 2 {
-                Seen::Bound(k)
-            } else {
+            if bytes::operands(bytes::byte(s, at) as usize) == 2 {
                 atom(s, k, set)
+            } else {
+                Seen::Bound(k)
             }
         }
     }
@@ -119,7 +100,7 @@ pub fn arguments(s: &[u8], at: usize, set: u16) -> Seen
     if s.len() <= at {
         return Seen::Unbound;
     }
-    temporaries(s, at + 1, byte(s, at), set)
+    temporaries(s, at + 1, bytes::byte(s, at), set)
 }
 
 // n parameters, each new.
@@ -133,7 +114,7 @@ pub fn fresh(s: &[u8], at: usize, n: u8, set: u16) -> Walk
         if s.len() <= k {
             return Walk::Fault(7);
         }
-        let x = byte(s, k);
+        let x = bytes::byte(s, k);
         if holds(bound, x) {
             return Walk::Fault(7);
         }
@@ -151,7 +132,7 @@ fn statement(s: &[u8], at: usize, set: u16) -> Walk
     if s.len() <= at {
         return Walk::Fault(8);
     }
-    let x = byte(s, at);
+    let x = bytes::byte(s, at);
     match expression(s, at + 1, set) {
         Seen::Unbound => Walk::Fault(8),
         Seen::Bound(k) => {

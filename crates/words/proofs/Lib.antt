@@ -1,2 +1,4 @@
 pub mod Wrapping
 pub mod Moves
+pub mod Table
+pub mod Sets

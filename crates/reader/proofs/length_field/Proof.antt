@@ -38,7 +38,8 @@ use denote.Triple.Walked.{says, Stays, stay-none-slice, walkOf, goes-none-slice,
 use denote.Exit.{yes}
 use denote.Triple.Clauses.{ensured, lasts}
 use Rattle.model.specs.Read.{lengthField}
-use Rattle.reader.specs.Numbers.{numberAt}
+use Rattle.bytes.specs.Bytes.{wordAt}
+use Rattle.bytes.proofs.Numbers.{word-at-start}
 use Rattle.reader.specs.declared.Reader.{Reader}
 use Rattle.reader.proofs.Reader as T
 use Rattle.reader.proofs.Reader.Laws as T′
@@ -54,11 +55,6 @@ use Rattle.reader.proofs.length_field.Key.{name as #reader·field}
 use Rattle.reader.proofs.length_field as field
 use Rattle.reader.proofs.length_field.Statement as stated
 use Rattle.reader.proofs.length_field.Code as code
-
--- the length field is the number at the start
-at-start : (s : List ℕ) → numberAt s 0 ≡ lengthField s
-unfolding numberAt lengthField
-at-start s = refl
 
 -- the struct's type, over the signature's lifetimes
 abbrev B : Lfts 1 → RattleType
@@ -113,8 +109,8 @@ module _ {M : Type 1} (𝓤 : URA M) (H : Heap 𝓤) (A : Atoms 𝓤) (W : Given
   goes-number : (r : Reader) (u : Val) → ent 𝓤 (⋆ 𝓤 H A (‵ (B (κ, tt) .own r (u ∷ [])) ∷ (‵ (flft κ q) ⊛ ‵ ftrue) ∷ [])) (Number 𝓤 H A mem run .pre (to-number r u))
   goes-number r u = qed W (‵ (B (κ, tt) .own r (u ∷ [])) ∷ (‵ (flft κ q) ⊛ ‵ ftrue) ∷ []) ∵ nothing ! $ move ! (1 ∷ 0 ∷ []) $ fjoin ! $ move ! (1 ∷ 0 ∷ []) $ join ! $ frame ! $ done !
 
-  number-said : (r : Reader) (n : ℕ) → ent 𝓤 (ensured 𝓤 H A number.ended (number.clauses 𝓤 H A mem run) (κ, tt) (r, tt) tt n) (fact 𝓤 (n ≡ numberAt (now (r .src)) (r .at)))
-  number-said r n = exE 𝓤 _ (λ ws. snd∗ 𝓤 (sem 𝓤 H A (lasts number.ended (κ, tt) (r, tt) ws)) (fact 𝓤 (n ≡ numberAt (now (r .src)) (r .at))))
+  number-said : (r : Reader) (n : ℕ) → ent 𝓤 (ensured 𝓤 H A number.ended (number.clauses 𝓤 H A mem run) (κ, tt) (r, tt) tt n) (fact 𝓤 (n ≡ wordAt (now (r .src)) (r .at)))
+  number-said r n = exE 𝓤 _ (λ ws. snd∗ 𝓤 (sem 𝓤 H A (lasts number.ended (κ, tt) (r, tt) ws)) (fact 𝓤 (n ≡ wordAt (now (r .src)) (r .at))))
 
   exits : (n : ℕ) (u : Val) → n ≡ found → ent 𝓤 (⋆ 𝓤 H A (‵ (u32 .own n (u ∷ [])) ∷ (‵ (flft κ q) ⊛ ‵ ftrue) ∷ ‵ Own ∷ [])) (Post u)
   exits n u e =
@@ -137,12 +133,12 @@ module _ {M : Type 1} (𝓤 : URA M) (H : Heap 𝓤) (A : Atoms 𝓤) (W : Given
         use2 W (raw (Number 𝓤 H A mem run .pre (to-number r u))) (goes-number r u) $
         calls-at ! fm (Number 𝓤 H A mem run) known-number (to-number r u) (and-then ! (load ! (from ! (stop !)) (look ! 2 refl)) (no-more !)) (λ u′.
         use1 W (later (some (λ (n : ℕ). ((‵ (flft κ q) ⊛ ‵ ftrue) ⊛ ‵ (u32 .own n (u′ ∷ []))) ⊛ raw (ensured 𝓤 H A number.ended (number.clauses 𝓤 H A mem run) (κ, tt) (r, tt) tt n)))) (id⊢ 𝓤 _) $ await ! tt $ pick ! (λ n.
-        split ! $ move ! (1 ∷ []) $ use1 W (raw (fact 𝓤 (n ≡ numberAt (now (r .src)) (r .at)))) (number-said r n) $ heard ! (n ≡ numberAt (now (r .src)) (r .at)) (λ e′. split ! $ move ! (1 ∷ []) $
+        split ! $ move ! (1 ∷ []) $ use1 W (raw (fact 𝓤 (n ≡ wordAt (now (r .src)) (r .at)))) (number-said r n) $ heard ! (n ≡ wordAt (now (r .src)) (r .at)) (λ e′. split ! $ move ! (1 ∷ []) $
         -- [the result; the token; what s owns; _2; …; _1; …; room for _0; …]
         peeks ! u32 (Is u32) (shows 𝓤 H A u32) n (u′ ∷ []) (λ is′.
         land ! (from ! (stop !)) (init ! 7 refl (uint-lawful 𝓤 H A W w32 .typed n _ is′ .0)) $
         returns ! (look ! 7 refl) $ forget ! 3 refl $ forget ! 5 refl $ forget ! 7 refl $ move ! (7 ∷ 8 ∷ []) $ free1 ! $ move ! (5 ∷ 6 ∷ []) $ free1 ! $ move ! (3 ∷ 4 ∷ []) $ free1 ! $ free0 ! $
-        by ! (exits n u′ (e′ ∙ (ap (λ (x : RefT (List ℕ)). numberAt (now x) (r .at)) (e .0) ∙ (ap (numberAt (now s)) (e .1) ∙ at-start (now s))))))))))))))))
+        by ! (exits n u′ (e′ ∙ (ap (λ (x : RefT (List ℕ)). wordAt (now x) (r .at)) (e .0) ∙ (ap (wordAt (now s)) (e .1) ∙ word-at-start (now s))))))))))))))))
 
 module _ {M : Type 1} (𝓤 : URA M) (H : Heap 𝓤) (A : Atoms 𝓤) (W : Given 𝓤 H A) (mem : Memory → SProp 𝓤) (run : Routine → Fun 𝓤) where
   field-walks : (C : Calls 𝓤 H) (Λ : Loops 𝓤 H) → FmC 𝓤 H (W .laws) C → Triple 𝓤 (C #reader·new) (New 𝓤 H A mem run) → Triple 𝓤 (C #reader·number) (Number 𝓤 H A mem run)

@@ -10,12 +10,6 @@ sized-spec =
     (tie.spec
     (λ c. too-short _ (c .if1 .taken))
     (λ c. too-long _ (c .before .if1 .left) (c .if2 .taken))
-    (λ c. search needs)
-    (λ c. search needs)
     (λ c κs. search needs)
     (λ c. search needs)
-    (λ c. search needs)
-    (λ c κs. search needs)
-    (λ c κs. search needs)
-    (λ c. search needs)
-    (λ c. in-limits _ (omega arith) (omega arith) _ _ _ (c .before .before .before .before .half .ensures) (c .before .half2 .ensures) (c .word .ensures)))
+    (λ c. in-limits _ (omega arith) (omega arith) _ (c .word .ensures)))

@@ -18,7 +18,7 @@ join-spec =
     (λ c κs. search needs)
     (λ c. search needs)
     (λ c. search needs)
-    (λ c. let a = c .before .before .before .before .before .before .before .before .before .before .before .before .before .args in join-bare (a .s .now) (a .places .now) (a .here) (a .at) (c .before .before .before .before .before .before .before .before .before .before .before .byte .result) (c .before .before .before .before .before .before .before .before .before .before .before .byte .ensures) (c .before .before .before .before .before .before .before .before .before .before .block-of .ensures) (c .before .before .before .before .before .before .before .before .h .given .1) (c .before .before .before .before .before .before .item .result) (c .before .before .before .before .before .before .item .ensures) (c .before .before .before .before .before .block-of2 .ensures) (c .before .before .before .k .given .1) (c .if1 .taken))
+    (λ c. search (join-bare))
     (λ c. search needs)
     (λ c κs. search needs)
     (λ c κs. search needs)

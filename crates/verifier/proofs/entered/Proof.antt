@@ -1,5 +1,5 @@
 -- `verifier::entered` meets its contract.
-use Rattle.walks.proofs.Bits.{low}
+use Rattle.words.proofs.Sets.{low}
 use native.Mathlib.Nat.{one-le-pow}
 use mathlib.Core.Bool.{false}
 use native.Mathlib.Omega.{arith}

@@ -1,5 +1,5 @@
 -- `walks::bind` meets its contract.
-use Rattle.walks.proofs.Bits.{bind-with}
+use Rattle.words.proofs.Sets.{bind-with}
 use borrow.Author.Needs.{needs}
 use Rattle.walks.proofs.bind.Statement.{statement}
 use Rattle.walks.proofs.bind.Tie as tie

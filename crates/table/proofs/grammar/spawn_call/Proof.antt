@@ -1,7 +1,7 @@
 -- `table::grammar::spawn_call`: a name, then arguments.
 use borrow.Author.Needs.{needs}
 use Rattle.model.specs.Read as Read
-use Rattle.table.proofs.Laws.{skips}
+use Rattle.table.proofs.Rules.{kinds-of}
 use Rattle.table.proofs.grammar.spawn_call.Statement.{statement}
 use Rattle.table.proofs.grammar.spawn_call.Tie as tie
 
@@ -14,5 +14,5 @@ spawn-call-spec =
     (λ c. search needs)
     (λ c κs. search needs)
     (λ c. search needs)
-    (λ c. search skips)
-    (λ c. search skips))
+    (λ c. search kinds-of)
+    (λ c. search kinds-of))

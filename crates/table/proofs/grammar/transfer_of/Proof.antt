@@ -2,11 +2,13 @@
 use Prim.Native.Nat.{_<_}
 use native.Mathlib.Omega.{arith}
 use borrow.Author.Needs.{needs}
+use Rattle.model.specs.Read as Read
 use Rattle.table.proofs.Rules.{transfers, other-skip}
 use Rattle.table.proofs.grammar.transfer_of.Statement.{statement}
 use Rattle.table.proofs.grammar.transfer_of.Tie as tie
 
 pub transfer-of-spec : {M : Type 1} → statement M
+unfolding Read.temporary
 transfer-of-spec =
     tie.close
     (tie.spec
