@@ -1,5 +1,5 @@
 -- Where a table reads, what stands at an offset is what was read, and reading ends where the code says: one law a part.
-use Prim.Native.Nat.{ℕ, zero, suc, _+_, _*_, min, _≤_, _<_}
+use Prim.Native.Nat.{ℕ, zero, suc, _+_, _^_, min, _≤_, _<_}
 use mathlib.Core.Path.{_≡_, refl, sym, ap, _∙_}
 use mathlib.Core.Bool.{cond}
 use mathlib.Core.Option.{some}
@@ -13,18 +13,28 @@ use Rattle.model.specs.Syntax.{Atom, Expression, Statement, Transfer, Head, Blo
 use Rattle.model.specs.Read as Read
 use Rattle.model.specs.Read.{Parsed, Parser, byte, many, counted, pick}
 use Rattle.model.proofs.Reading.{bad-ok, ok-value, ok-offset, next-ok, byte-ok, many-uncons, many-item, counted-ok}
-use Rattle.eval.specs.Bytes.{byteAt, past, run, countAt, argumentsAt, listEnd, halfAt, wordAt, atomOf, atomAt, atomEnd, operands, expressionOf, secondAt, expressionAt, expressionEnd, statementAt, statementEnd, statementsEnd, headEnd, transferOf, transferAt}
+use Rattle.bytes.specs.Bytes.{byteAt, past, halfAt, wordAt, operands}
+use Rattle.eval.specs.Code.{run, countAt, argumentsAt, listEnd, atomOf, atomAt, atomEnd, expressionOf, secondAt, expressionAt, expressionEnd, statementAt, statementEnd, statementsEnd, headEnd, transferOf, transferAt}
 use Rattle.model.proofs.Guarantees.{Gives, gives-then, gives-pure}
-use Rattle.eval.proofs.Leaves.{past-in}
+use Rattle.bytes.proofs.Offsets.{past-in}
+use Rattle.bytes.proofs.Numbers.{half-ok, word-ok}
 
 abbrev At : Type 0 → Type 0
 At A = List ℕ → ℕ → A
 
+-- an offset within the table, which is no longer than a machine's numbers go
+pub record In (s : List ℕ) (at : ℕ) : Type 0 where
+  pub within : at ≤ length s
+  pub short : length s < 2 ^ 64
+
+on : {s : List ℕ} {at k : ℕ} → In s at → k ≤ length s → In s k
+on l h = record { within = h; short = l .short }
+
 -- p gives what stands there, and ends where it is said to, within the table
 pub record Decodes {A : Type 0} (p : Parser A) (here : At A) (ends : At ℕ) : Type 0 where
-  pub value : (s : List ℕ) (at : ℕ) (a : A) (k : ℕ) → p s at ≡ Parsed.ok a k → at ≤ length s → a ≡ here s at
-  pub end : (s : List ℕ) (at : ℕ) (a : A) (k : ℕ) → p s at ≡ Parsed.ok a k → at ≤ length s → k ≡ ends s at
-  pub within : (s : List ℕ) (at : ℕ) (a : A) (k : ℕ) → p s at ≡ Parsed.ok a k → at ≤ length s → k ≤ length s
+  pub value : (s : List ℕ) (at : ℕ) (a : A) (k : ℕ) → p s at ≡ Parsed.ok a k → In s at → a ≡ here s at
+  pub end : (s : List ℕ) (at : ℕ) (a : A) (k : ℕ) → p s at ≡ Parsed.ok a k → In s at → k ≡ ends s at
+  pub within : (s : List ℕ) (at : ℕ) (a : A) (k : ℕ) → p s at ≡ Parsed.ok a k → In s at → In s k
 
 module _ {A : Type 0} where
   pub decodes-pure : (a : A) → Decodes (Read.pure a) (λ s at. a) (λ s at. at)
@@ -32,7 +42,7 @@ module _ {A : Type 0} where
       record {
         value = λ s at b k e h. sym (ok-value e);
         end = λ s at b k e h. sym (ok-offset e);
-        within = λ s at b k e h. let q = ok-offset e in omega arith;
+        within = λ s at b k e h. on h (let q = ok-offset e in omega (arith, h .within));
       }
 
   pub decodes-never : {here : At A} {ends : At ℕ} → Decodes (λ s at. Parsed.bad at) here ends
@@ -64,65 +74,30 @@ module _ {A : Type 0} where
             g (t .value) .within s (t .between) b k (t .then) (d .within s at _ _ (t .first) l);
       }
 
-pub decodes-byte : (lo hi : ℕ) → Decodes (byte lo hi) byteAt (λ s at. past s at 1)
+pub decodes-byte : (lo hi : ℕ) → Decodes (byte lo hi) byteAt (λ s at. past at 1)
 decodes-byte lo hi =
     record {
       value = λ s at n k e l. sym (byte-ok lo hi s at n k e .is);
-      end = λ s at n k e l. let b = byte-ok lo hi s at n k e in b .behind ∙ sym (past-in s at 1 (omega (arith, b .inside)));
-      within = λ s at n k e l. let b = byte-ok lo hi s at n k e in omega (arith, b .inside, b .behind);
+      end = λ s at n k e l. let b = byte-ok lo hi s at n k e in b .behind ∙ sym (past-in s at 1 (l .short) (omega (arith, b .inside)));
+      within = λ s at n k e l. let b = byte-ok lo hi s at n k e in on l (omega (arith, b .inside, b .behind));
     }
 
--- two pasts are one, where the second ends within the table
-past-past : (s : List ℕ) (at m n : ℕ) → at + m + n ≤ length s → past s (past s at m) n ≡ past s at (m + n)
-past-past s at m n h =
-    ap (λ (i : ℕ). past s i n) (past-in s at m (omega arith)) ∙ past-in s (at + m) n h ∙ sym (past-in s at (m + n) (omega arith) ∙ omega arith)
-
--- a number of bytes
-pub decodes-half : Decodes Read.half halfAt (λ s at. past s at 2)
-unfolding Read.half halfAt
+-- numbers of two and of four bytes
+pub decodes-half : Decodes Read.half halfAt (λ s at. past at 2)
 decodes-half =
     record {
-      value = λ s at n k e l. two .value s at n k e l;
-      end = λ s at n k e l.
-          let w = two .within s at n k e l in
-          let q : k ≡ past s (past s at 1) 1 = two .end s at n k e l in
-          let t = next-ok (byte 0 255 s at) _ e in
-          let u = next-ok (byte 0 255 s (t .between)) _ (t .then) in
-          let b = byte-ok 0 255 s at _ _ (t .first) in
-          let c = byte-ok 0 255 s (t .between) _ _ (u .first) in
-          q ∙ past-past s at 1 1 (omega (arith, b .behind, c .inside));
-      within = λ s at n k e l. two .within s at n k e l;
+      value = λ s at n k e l. half-ok s at e .is;
+      end = λ s at n k e l. let b = half-ok s at e in b .behind ∙ sym (past-in s at 2 (l .short) (omega (arith, b .behind, b .within)));
+      within = λ s at n k e l. on l (half-ok s at e .within);
     }
-  where
-    two : Decodes Read.half (λ s at. byteAt s at * 256 + byteAt s (past s at 1)) (λ s at. past s (past s at 1) 1)
-    two = decodes-then (λ a s at. a * 256 + byteAt s at) (λ a s at. past s at 1) (decodes-byte 0 255) λ a. decodes-then (λ b s at. a * 256 + b) (λ b s at. at) (decodes-byte 0 255) λ b. decodes-pure (a * 256 + b)
 
-half-offset : (s : List ℕ) (at n k : ℕ) → Read.half s at ≡ Parsed.ok n k → (k ≡ at + 2) × (k ≤ length s)
-unfolding Read.half
-half-offset s at n k e =
-    let t = next-ok (byte 0 255 s at) _ e in
-    let u = next-ok (byte 0 255 s (t .between)) _ (t .then) in
-    let b = byte-ok 0 255 s at _ _ (t .first) in
-    let c = byte-ok 0 255 s (t .between) _ _ (u .first) in
-    let q : u .between ≡ k = ok-offset (u .then) in
-    (omega (arith, b .behind, c .behind), omega (arith, c .behind, c .inside))
-
-pub decodes-word : Decodes Read.word wordAt (λ s at. past s at 4)
-unfolding Read.word wordAt
+pub decodes-word : Decodes Read.word wordAt (λ s at. past at 4)
 decodes-word =
     record {
-      value = λ s at n k e l. two .value s at n k e l;
-      end = λ s at n k e l.
-          let t = next-ok (Read.half s at) _ e in
-          let u = next-ok (Read.half s (t .between)) _ (t .then) in
-          let (b, _) = half-offset s at _ _ (t .first) in
-          let (c, d) = half-offset s (t .between) _ _ (u .first) in
-          two .end s at n k e l ∙ past-past s at 2 2 (omega arith);
-      within = λ s at n k e l. two .within s at n k e l;
+      value = λ s at n k e l. word-ok s at e .is;
+      end = λ s at n k e l. let b = word-ok s at e in b .behind ∙ sym (past-in s at 4 (l .short) (omega (arith, b .behind, b .within)));
+      within = λ s at n k e l. on l (word-ok s at e .within);
     }
-  where
-    two : Decodes Read.word (λ s at. halfAt s at * 65536 + halfAt s (past s at 2)) (λ s at. past s (past s at 2) 2)
-    two = decodes-then (λ a s at. a * 65536 + halfAt s at) (λ a s at. past s at 2) decodes-half λ a. decodes-then (λ b s at. a * 65536 + b) (λ b s at. at) decodes-half λ b. decodes-pure (a * 65536 + b)
 
 -- bytes one after another, and a counted list of them
 pub record Ran (s : List ℕ) (at n : ℕ) (xs : List ℕ) (k : ℕ) : Type 0 where
@@ -130,16 +105,16 @@ pub record Ran (s : List ℕ) (at n : ℕ) (xs : List ℕ) (k : ℕ) : Type 0 wh
   pub end : k ≡ at + n
   pub within : k ≤ length s
 
-many-run : (lo hi n : ℕ) (s : List ℕ) (at : ℕ) (xs : List ℕ) (k : ℕ) → many (byte lo hi) n s at ≡ Parsed.ok xs k → at ≤ length s → Ran s at n xs k
+many-run : (lo hi n : ℕ) (s : List ℕ) (at : ℕ) (xs : List ℕ) (k : ℕ) → many (byte lo hi) n s at ≡ Parsed.ok xs k → In s at → Ran s at n xs k
 unfolding many run
 many-run lo hi zero s at xs k e l =
     let q : at ≡ k = ok-offset e in
-    record { is = sym (ok-value e); end = omega arith; within = omega arith }
+    record { is = sym (ok-value e); end = omega arith; within = omega (arith, l .within) }
 many-run lo hi (suc n) s at xs k e l =
     let u = many-uncons (byte lo hi) n s at e in
     let b = byte-ok lo hi s at _ _ (u .first) in
-    let r = many-run lo hi n s (u .between) (u .rest) k (u .then) (omega (arith, b .inside, b .behind)) in
-    let p : past s at 1 ≡ u .between = past-in s at 1 (omega (arith, b .inside)) ∙ sym (b .behind) in
+    let r = many-run lo hi n s (u .between) (u .rest) k (u .then) (on l (omega (arith, b .inside, b .behind))) in
+    let p : past at 1 ≡ u .between = past-in s at 1 (l .short) (omega (arith, b .inside)) ∙ sym (b .behind) in
     record {
       is = u .is ∙ rw (p, b .is, r .is);
       end = omega (arith, b .behind, r .end);
@@ -152,27 +127,27 @@ decodes-list most lo hi m =
     record {
       value = λ s at xs k e l.
           let (b, t) = counted-ok most (byte lo hi) s at e in
-          let r = many-run lo hi (length xs) s (at + 1) xs k t (omega (arith, b .inside)) in
+          let r = many-run lo hi (length xs) s (at + 1) xs k t (on l (omega (arith, b .inside))) in
           let c : min (getD s at 0) 8 ≡ length xs = min-eq-left (omega (arith, b .is, b .high)) ∙ b .is in
-          r .is ∙ rw (past-in s at 1 (omega (arith, b .inside)), c);
+          r .is ∙ rw (past-in s at 1 (l .short) (omega (arith, b .inside)), c);
       end = λ s at xs k e l.
           let (b, t) = counted-ok most (byte lo hi) s at e in
-          let r = many-run lo hi (length xs) s (at + 1) xs k t (omega (arith, b .inside)) in
-          r .end ∙ sym (rw (past-in s at 1 (omega (arith, b .inside)), b .is) (past-in s (at + 1) (length xs) (omega (arith, r .end, r .within))));
+          let r = many-run lo hi (length xs) s (at + 1) xs k t (on l (omega (arith, b .inside))) in
+          r .end ∙ sym (rw (past-in s at 1 (l .short) (omega (arith, b .inside)), b .is) (past-in s (at + 1) (length xs) (l .short) (omega (arith, r .end, r .within))));
       within = λ s at xs k e l.
           let (b, t) = counted-ok most (byte lo hi) s at e in
-          many-run lo hi (length xs) s (at + 1) xs k t (omega (arith, b .inside)) .within;
+          on l (many-run lo hi (length xs) s (at + 1) xs k t (on l (omega (arith, b .inside))) .within);
     }
 
 pub decodes-arguments : Decodes Read.arguments argumentsAt listEnd
 unfolding Read.arguments Read.temporary
 decodes-arguments = decodes-list 8 0 15 (omega arith)
 
-pub decodes-name : Decodes Read.name byteAt (λ s at. past s at 1)
+pub decodes-name : Decodes Read.name byteAt (λ s at. past at 1)
 unfolding Read.name
 decodes-name = decodes-byte 0 255
 
-pub decodes-temporary : Decodes Read.temporary byteAt (λ s at. past s at 1)
+pub decodes-temporary : Decodes Read.temporary byteAt (λ s at. past at 1)
 unfolding Read.temporary
 decodes-temporary = decodes-byte 0 15
 
@@ -185,7 +160,7 @@ decodes-atom = decodes-then here ends (decodes-byte 0 1) kinds
     here k s at = atomOf k (signed (wordAt s at)) (byteAt s at)
 
     ends : ℕ → At ℕ
-    ends k s at = cond (eqb k 0) (past s at 4) (past s at 1)
+    ends k s at = cond (eqb k 0) (past at 4) (past at 1)
 
     kinds : (k : ℕ) → Decodes (pick (Read.value ∷ Read.variable ∷ []) k) (here k) (ends k)
     kinds zero = decodes-then (λ n s at. Atom.value (signed n)) (λ n s at. at) decodes-word λ n. decodes-pure (Atom.value (signed n))
@@ -225,21 +200,21 @@ decodes-statement =
     decodes-pure (record { target = x; source = e })
 
 -- a transfer, by kind
-pub decodes-transfer : (s : List ℕ) (at : ℕ) (t : Transfer) (k : ℕ) → Read.transfer s at ≡ Parsed.ok t k → at ≤ length s → t ≡ transferAt s at
+pub decodes-transfer : (s : List ℕ) (at : ℕ) (t : Transfer) (k : ℕ) → Read.transfer s at ≡ Parsed.ok t k → In s at → t ≡ transferAt s at
 unfolding Read.transfer Read.goto Read.if Read.call Read.return Read.spork Read.spoin Read.temporary transferAt transferOf pick
 decodes-transfer s at t k e l = decodes-then transferOf ends (decodes-byte 0 5) kinds .value s at t k e l
   where
     ends : ℕ → At ℕ
-    ends zero s at = listEnd s (past s at 1)
-    ends (suc zero) s at = past s (past s (expressionEnd s at) 1) 1
-    ends (suc (suc zero)) s at = past s (listEnd s (past s at 1)) 1
+    ends zero s at = listEnd s (past at 1)
+    ends (suc zero) s at = past (past (expressionEnd s at) 1) 1
+    ends (suc (suc zero)) s at = past (listEnd s (past at 1)) 1
     ends (suc (suc (suc zero))) s at = listEnd s at
-    ends (suc (suc (suc (suc zero)))) s at = past s (past s at 1) 1
-    ends (suc (suc (suc (suc (suc k))))) s at = past s (past s at 1) 1
+    ends (suc (suc (suc (suc zero)))) s at = past (past at 1) 1
+    ends (suc (suc (suc (suc (suc k))))) s at = past (past at 1) 1
 
-    names : (f : ℕ → ℕ → Transfer) → Decodes (Read._>>=_ Read.name λ b. Read._>>=_ Read.name λ c. Read.pure (f b c)) (λ s at. f (byteAt s at) (byteAt s (past s at 1))) (λ s at. past s (past s at 1) 1)
+    names : (f : ℕ → ℕ → Transfer) → Decodes (Read._>>=_ Read.name λ b. Read._>>=_ Read.name λ c. Read.pure (f b c)) (λ s at. f (byteAt s at) (byteAt s (past at 1))) (λ s at. past (past at 1) 1)
     names f =
-        decodes-then (λ b s at. f b (byteAt s at)) (λ b s at. past s at 1) decodes-name λ b.
+        decodes-then (λ b s at. f b (byteAt s at)) (λ b s at. past at 1) decodes-name λ b.
         decodes-then (λ c s at. f b c) (λ c s at. at) decodes-name λ c. decodes-pure (f b c)
 
     kinds : (k : ℕ) → Decodes (pick (Read.goto ∷ Read.if ∷ Read.call ∷ Read.return ∷ Read.spork ∷ Read.spoin ∷ []) k) (transferOf k) (ends k)
@@ -247,11 +222,11 @@ decodes-transfer s at t k e l = decodes-then transferOf ends (decodes-byte 0 5) 
         decodes-then (λ b s at. Transfer.goto b (argumentsAt s at)) (λ b s at. listEnd s at) decodes-name λ b.
         decodes-then (λ x̄ s at. Transfer.goto b x̄) (λ x̄ s at. at) decodes-arguments λ x̄. decodes-pure (Transfer.goto b x̄)
     kinds (suc zero) =
-        decodes-then (λ e s at. Transfer.if e (byteAt s at) (byteAt s (past s at 1))) (λ e s at. past s (past s at 1) 1) decodes-expression λ e.
+        decodes-then (λ e s at. Transfer.if e (byteAt s at) (byteAt s (past at 1))) (λ e s at. past (past at 1) 1) decodes-expression λ e.
         names (Transfer.if e)
     kinds (suc (suc zero)) =
-        decodes-then (λ g s at. Transfer.call g (argumentsAt s at) (byteAt s (listEnd s at))) (λ g s at. past s (listEnd s at) 1) decodes-name λ g.
-        decodes-then (λ x̄ s at. Transfer.call g x̄ (byteAt s at)) (λ x̄ s at. past s at 1) decodes-arguments λ x̄.
+        decodes-then (λ g s at. Transfer.call g (argumentsAt s at) (byteAt s (listEnd s at))) (λ g s at. past (listEnd s at) 1) decodes-name λ g.
+        decodes-then (λ x̄ s at. Transfer.call g x̄ (byteAt s at)) (λ x̄ s at. past at 1) decodes-arguments λ x̄.
         decodes-then (λ b s at. Transfer.call g x̄ b) (λ b s at. at) decodes-name λ b. decodes-pure (Transfer.call g x̄ b)
     kinds (suc (suc (suc zero))) =
         decodes-then (λ x̄ s at. Transfer.return x̄) (λ x̄ s at. at) (decodes-list 4 0 15 (omega arith)) λ x̄. decodes-pure (Transfer.return x̄)
@@ -260,9 +235,9 @@ decodes-transfer s at t k e l = decodes-then transferOf ends (decodes-byte 0 5) 
     kinds (suc (suc (suc (suc (suc (suc k)))))) = decodes-never
 
 -- statements one after another
-pub statements-end : (n : ℕ) (s : List ℕ) (at : ℕ) (xs : List Statement) (k : ℕ) → many Read.statement n s at ≡ Parsed.ok xs k → at ≤ length s → (k ≡ statementsEnd s at n) × (k ≤ length s)
+pub statements-end : (n : ℕ) (s : List ℕ) (at : ℕ) (xs : List Statement) (k : ℕ) → many Read.statement n s at ≡ Parsed.ok xs k → In s at → (k ≡ statementsEnd s at n) × In s k
 unfolding many statementsEnd
-statements-end zero s at xs k e l = let q : at ≡ k = ok-offset e in (sym q, omega arith)
+statements-end zero s at xs k e l = let q : at ≡ k = ok-offset e in (sym q, on l (omega (arith, l .within)))
 statements-end (suc n) s at xs k e l =
     let u = many-uncons Read.statement n s at e in
     let w = decodes-statement .within s at _ _ (u .first) l in
@@ -271,10 +246,10 @@ statements-end (suc n) s at xs k e l =
     (r .0 ∙ rw q, r .1)
 
 -- a block's head
-pub decodes-head : Decodes Read.head (λ s at. record { parameters = argumentsAt s at; scope = halfAt s (listEnd s at); nesting = argumentsAt s (past s (listEnd s at) 2) }) headEnd
+pub decodes-head : Decodes Read.head (λ s at. record { parameters = argumentsAt s at; scope = halfAt s (listEnd s at); nesting = argumentsAt s (past (listEnd s at) 2) }) headEnd
 unfolding Read.head Read.name headEnd
 decodes-head =
-    decodes-then (λ x̄ s at. record { parameters = x̄; scope = halfAt s at; nesting = argumentsAt s (past s at 2) }) (λ x̄ s at. listEnd s (past s at 2)) decodes-arguments λ x̄.
+    decodes-then (λ x̄ s at. record { parameters = x̄; scope = halfAt s at; nesting = argumentsAt s (past at 2) }) (λ x̄ s at. listEnd s (past at 2)) decodes-arguments λ x̄.
     decodes-then (λ Γ s at. record { parameters = x̄; scope = Γ; nesting = argumentsAt s at }) (λ Γ s at. listEnd s at) decodes-half λ Γ.
     decodes-then (λ ρ s at. record { parameters = x̄; scope = Γ; nesting = ρ }) (λ ρ s at. at) (decodes-list 4 0 255 (omega arith)) λ ρ.
     decodes-pure (record { parameters = x̄; scope = Γ; nesting = ρ })
@@ -291,22 +266,22 @@ head-inside s at h k e = let t = next-ok (Read.arguments s at) _ e in arguments-
 -- what code finds of a block at the number of its statements: their number, each of them, and the transfer
 pub record Codes (s : List ℕ) (at : ℕ) (B : Block) : Type 0 where
   pub count : length (B .code) ≡ byteAt s at
-  pub items : (i : ℕ) → i < length (B .code) → getElem? (B .code) i ≡ some (statementAt s (statementsEnd s (past s at 1) i))
-  pub transfer : B .transfer ≡ transferAt s (statementsEnd s (past s at 1) (byteAt s at))
+  pub items : (i : ℕ) → i < length (B .code) → getElem? (B .code) i ≡ some (statementAt s (statementsEnd s (past at 1) i))
+  pub transfer : B .transfer ≡ transferAt s (statementsEnd s (past at 1) (byteAt s at))
 
-pub block-codes : (s : List ℕ) (at : ℕ) (B : Block) (k : ℕ) → Read.block s at ≡ Parsed.ok B k → (B .head .parameters ≡ argumentsAt s at) × Codes s (headEnd s at) B
+pub block-codes : (s : List ℕ) (at : ℕ) (B : Block) (k : ℕ) → length s < 2 ^ 64 → Read.block s at ≡ Parsed.ok B k → (B .head .parameters ≡ argumentsAt s at) × Codes s (headEnd s at) B
 unfolding Read.block
-block-codes s at B k e =
+block-codes s at B k short e =
     let t = next-ok (Read.head s at) _ e in
     let u = next-ok (counted 32 Read.statement s (t .between)) _ (t .then) in
     let v = next-ok (Read.transfer s (u .between)) _ (u .then) in
-    let l : at ≤ length s = let i = head-inside s at _ _ (t .first) in omega arith in
+    let l : In s at = record { within = let i = head-inside s at _ _ (t .first) in omega arith; short = short } in
     let h = decodes-head .value s at _ _ (t .first) l in
     let q : t .between ≡ headEnd s at = decodes-head .end s at _ _ (t .first) l in
     let is : record { head = t .value; code = u .value; transfer = v .value } ≡ B = ok-value (v .then) in
     let (b, m) = counted-ok 32 Read.statement s (t .between) (u .first) in
-    let p : past s (t .between) 1 ≡ t .between + 1 = past-in s (t .between) 1 (omega (arith, b .inside)) in
-    let l′ : t .between + 1 ≤ length s = omega (arith, b .inside) in
+    let p : past (t .between) 1 ≡ t .between + 1 = past-in s (t .between) 1 short (omega (arith, b .inside)) in
+    let l′ : In s (t .between + 1) = record { within = omega (arith, b .inside); short = short } in
     let r = statements-end (length (u .value)) s (t .between + 1) _ _ m l′ in
     rw (← is, ← q) (
       ap (λ (h : Head). h .parameters) h,
@@ -321,19 +296,19 @@ block-codes s at B k e =
     )
 
 -- a spawn call, and a function's number of parameters
-pub decodes-spawn : Decodes Read.spawnCall (λ s at. record { function = byteAt s at; arguments = argumentsAt s (past s at 1) }) (λ s at. listEnd s (past s at 1))
+pub decodes-spawn : Decodes Read.spawnCall (λ s at. record { function = byteAt s at; arguments = argumentsAt s (past at 1) }) (λ s at. listEnd s (past at 1))
 unfolding Read.spawnCall
 decodes-spawn =
     decodes-then (λ g s at. record { function = g; arguments = argumentsAt s at }) (λ g s at. listEnd s at) decodes-name λ g.
     decodes-then (λ x̄ s at. record { function = g; arguments = x̄ }) (λ x̄ s at. at) decodes-arguments λ x̄.
     decodes-pure (record { function = g; arguments = x̄ })
 
-pub spawn-is : (s : List ℕ) (at : ℕ) (S : SpawnCall) (k : ℕ) → Read.spawnCall s at ≡ Parsed.ok S k → S ≡ record { function = byteAt s at; arguments = argumentsAt s (past s at 1) }
+pub spawn-is : (s : List ℕ) (at : ℕ) (S : SpawnCall) (k : ℕ) → length s < 2 ^ 64 → Read.spawnCall s at ≡ Parsed.ok S k → S ≡ record { function = byteAt s at; arguments = argumentsAt s (past at 1) }
 unfolding Read.spawnCall Read.name
-spawn-is s at S k e =
+spawn-is s at S k short e =
     let t = next-ok (byte 0 255 s at) _ e in
     let b = byte-ok 0 255 s at _ _ (t .first) in
-    decodes-spawn .value s at S k e (omega (arith, b .inside))
+    decodes-spawn .value s at S k e (record { within = omega (arith, b .inside); short = short })
 
 pub function-parameters : (s : List ℕ) (at : ℕ) (F : Function) (k : ℕ) → Read.function s at ≡ Parsed.ok F k → F .signature .parameters ≡ byteAt s at
 unfolding Read.function

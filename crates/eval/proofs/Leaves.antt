@@ -1,91 +1,48 @@
--- Facts that the code's leaves rest on: bytes past the end, offsets, sets of temporaries, and the values of expressions by kind.
-use Prim.Native.Nat.{ℕ, zero, suc, _+_, _*_, _-_, _/_, _%_, _^_, _≤_, _<_}
-use mathlib.Core.Path.{_≡_, refl, sym, ap, subst⁻¹, _∙_}
+-- Facts that the code's leaves rest on: sets of temporaries, and the values of expressions by kind.
+use Prim.Native.Nat.{ℕ, zero, suc, _*_, _/_, _%_, _^_, _≤_, _<_}
+use mathlib.Core.Path.{_≡_, refl, sym, ap, _∙_}
 use mathlib.Core.Bool.{Bool, true, false, not}
 use mathlib.Core.Option.{Option, none, some}
-use mathlib.Core.List.{List, [], _∷_}
-use native.Mathlib.Nat.{not-suc-le-zero, le-of-suc-le-suc, div-eq-of-lt, min-eq-left, min-eq-right, min-le-right, mod-eq-of-lt, one-mul}
+use mathlib.Core.List.{List}
+use native.Mathlib.Nat.{div-eq-of-lt, min-eq-left, min-eq-right, min-le-right, mod-eq-of-lt, one-mul}
 use native.Mathlib.Omega.{arith}
-use borrow.Author.Tests.{le-leb, lt-leb, eq-eqb, ne-eqb, not-true, not-false}
-use borrow.Author.Needs.{length-unmapped, sfits-of}
+use borrow.Author.Tests.{eq-eqb, ne-eqb, not-true, not-false}
+use borrow.Author.Needs.{sfits-of}
 use denote.Laws.{Is}
 use denote.Struct.Declared.{row}
-use mir.Val.{Val, Fits, SFits, toZ, ofZ}
+use mir.Val.{Val, SFits, toZ, ofZ}
 use mir.Facts.{toZ-ofZ}
-use mir.Syntax.{w16, w32}
+use mir.Syntax.{w32}
 use lib.Pow.{pow-mono, pow-lt}
 use lib.IntN.{ℤ, pos}
 use lib.Signed.{ltZ}
-use lib.ListN.{length, getD, set, length-take}
+use lib.ListN.{getD}
 use Rattle.model.specs.Values as Values
-use Rattle.model.specs.Sets.{has, with}
+use Rattle.model.specs.Sets.{has}
 use Rattle.model.specs.Syntax.{Atom}
 use Rattle.model.specs.Pool as Pool
-use Rattle.model.specs.Frames.{when, look, evalAtom, eval, bind}
-use Rattle.model.proofs.Members.{with-lt}
-use Rattle.frames.specs.declared.Frame.{Frame}
-use Rattle.frames.specs.Frame.{modelOf}
-use Rattle.frames.proofs.Frame.{the-type}
+use Rattle.model.specs.Frames.{when, look, evalAtom, eval}
 use Rattle.eval.specs.declared.Value.{Value}
-use Rattle.eval.specs.declared.Values as declared
-use Rattle.eval.proofs.Values as structs
 use Rattle.eval.proofs.Value as single
-use Rattle.eval.specs.Bytes.{byteAt, past, countAt, wordAt, atomOf, atomAt, atomEnd, operands, expressionOf, secondAt, expressionAt, expressionEnd}
-use Rattle.eval.specs.Given.{optional, valueOf, valuesOf, applied}
-
--- past its end a table has zeros
-pub no-byte : (s : List ℕ) (at : ℕ) → length s ≤ at → getD s at 0 ≡ 0
-no-byte [] at h = refl
-no-byte (x ∷ s) zero h = absurd (not-suc-le-zero h)
-no-byte (x ∷ s) (suc at) h = no-byte s at (le-of-suc-le-suc h)
-
--- an offset within the table, and past it
-pub past-in : (s : List ℕ) (at n : ℕ) → at + n ≤ length s → past s at n ≡ at + n
-unfolding past
-past-in s at n h = rw (le-leb (at + n) (length s) h)
-
-pub past-out : (s : List ℕ) (at n : ℕ) → length s < at + n → past s at n ≡ at
-unfolding past
-past-out s at n h = rw (lt-leb (at + n) (length s) h)
-
--- what is known of a frame: the sizes of its numbers and arrays
-pub record Sized (k : Frame) : Type 0 where
-  pub bound : k .bound < 2 ^ 16
-  pub calls : length (k .calls) ≡ 4
-  pub values : length (k .values) ≡ 16
-
-pub frame-sized : (k : Frame) {vs : List Val} → Is (row the-type) k vs → Sized k
-frame-sized k g =
-    let p = g .1 .1 .1 .1 .1 in
-    record {
-      bound = p .0 .1;
-      calls = length-unmapped ℕ (k .calls) 4 (p .1 .1 .1 .0 .1 .0 .1);
-      values = length-unmapped ℤ (k .values) 16 (p .1 .1 .1 .1 .0 .1 .0 .1);
-    }
+use Rattle.bytes.specs.Bytes.{byteAt, past, wordAt, operands}
+use Rattle.eval.specs.Code.{countAt, atomOf, atomAt, atomEnd, expressionOf, secondAt, expressionAt, expressionEnd}
+use Rattle.eval.specs.Given.{optional, valueOf, applied}
 
 -- the value of a temporary: bound, unbound, no temporary at all
-pub look-bound : (k : Frame) (x : ℕ) → k .bound / 2 ^ x % 2 ≡ 1 → look (modelOf k) x ≡ some (getD (k .values) x (pos 0))
-unfolding look modelOf has when
-look-bound k x h = rw (eq-eqb (k .bound / 2 ^ x % 2) 1 h)
+module _ (k : Pool.Frame) (x : ℕ) {Γ : ℕ} (e : Γ ≡ k .bound) where
+  pub look-bound : {v : ℤ} → Γ / 2 ^ x % 2 ≡ 1 → SFits w32 v → v ≡ getD (k .values) x (pos 0) → some (toZ w32 (ofZ w32 v)) ≡ look k x
+  unfolding look has when
+  look-bound h f d = rw (← e, eq-eqb (Γ / 2 ^ x % 2) 1 h, ← d) (ap some (toZ-ofZ f))
 
-pub look-unbound : (k : Frame) (x : ℕ) → (k .bound / 2 ^ x % 2 ≡ 1 → ⊥) → look (modelOf k) x ≡ none
-unfolding look modelOf has when
-look-unbound k x h = rw (ne-eqb (k .bound / 2 ^ x % 2) 1 h)
+  pub look-unbound : (Γ / 2 ^ x % 2 ≡ 1 → ⊥) → none ≡ look k x
+  unfolding look has when
+  look-unbound h = rw (← e, ne-eqb (Γ / 2 ^ x % 2) 1 h)
 
-pub look-high : (k : Frame) (x : ℕ) → k .bound < 2 ^ 16 → 16 ≤ x → look (modelOf k) x ≡ none
+pub look-high : (k : Pool.Frame) (x : ℕ) → k .bound < 2 ^ 16 → 16 ≤ x → none ≡ look k x
 look-high k x h l =
     let m : 2 ^ 16 ≤ 2 ^ x = pow-mono l in
     let z : k .bound / 2 ^ x ≡ 0 = div-eq-of-lt (omega arith) in
-    look-unbound k x (λ e. let o : 0 % 2 ≡ 1 = ap (λ (n : ℕ). n % 2) (sym z) ∙ e in omega arith)
-
--- one temporary more
-pub with-there : (Γ x : ℕ) → Γ / 2 ^ x % 2 ≡ 1 → with Γ x ≡ Γ
-unfolding with has
-with-there Γ x h = rw (eq-eqb (Γ / 2 ^ x % 2) 1 h)
-
-pub with-new : (Γ x : ℕ) → (Γ / 2 ^ x % 2 ≡ 1 → ⊥) → with Γ x ≡ Γ + 2 ^ x
-unfolding with has
-with-new Γ x h = rw (ne-eqb (Γ / 2 ^ x % 2) 1 h)
+    look-unbound k x refl (λ e. let o : 0 % 2 ≡ 1 = ap (λ (n : ℕ). n % 2) (sym z) ∙ e in omega arith)
 
 -- a value is of 32 bits
 pub value-fits : (v : Value) {vs : List Val} → Is (row single.the-type) v vs → SFits w32 (v .value)
@@ -140,21 +97,6 @@ module _ (k : Pool.Frame) (kind : ℕ) (m n : Atom) where
       go (suc (suc zero)) h = rw (e, d)
       go (suc (suc (suc i))) h = rw (e, d)
 
--- the table of operand counts, by kind
-pub operands-table : (kind : ℕ) → kind < 4 → getD (1 ∷ 1 ∷ 2 ∷ 2 ∷ []) kind 0 ≡ operands kind
-unfolding operands
-operands-table zero h = refl
-operands-table (suc zero) h = refl
-operands-table (suc (suc zero)) h = refl
-operands-table (suc (suc (suc zero))) h = refl
-operands-table (suc (suc (suc (suc kind)))) h = absurd (omega arith)
-
-pub operands-high : (kind : ℕ) → 4 ≤ kind → operands kind ≡ 2
-unfolding operands
-operands-high zero h = absurd (omega arith)
-operands-high (suc zero) h = absurd (omega arith)
-operands-high (suc (suc kind)) h = refl
-
 -- the arithmetic of each kind
 pub applied-atom : (kind : ℕ) (m n : ℤ) → kind ≡ 0 → applied kind m n ≡ m
 unfolding applied
@@ -183,21 +125,6 @@ pub less-false : (m n : ℤ) → SFits w32 m → SFits w32 n → ltZ (toZ w32 (o
 unfolding Values.less
 less-false m n f g e = let h : ltZ m n ≡ false = rw (toZ-ofZ f, toZ-ofZ g) at e in rw h
 
--- how many values there are
-pub values-sized : (v : declared.Values) {vs : List Val} → Is (row structs.the-type) v vs → length (v .at) ≡ 8
-values-sized v g = length-unmapped ℤ (v .at) 8 (g .1 .1 .1 .0 .1 .0 .1)
-
-pub given-few : (v : declared.Values) → length (v .at) ≡ 8 → v .count < 8 → length (valuesOf v) ≡ v .count
-given-few v e h = simp length-take (rw e (omega arith))
-
-pub given-all : (v : declared.Values) → length (v .at) ≡ 8 → 8 ≤ v .count → length (valuesOf v) ≡ 8
-given-all v e h = simp length-take (rw e (omega arith))
-
--- the frame with a temporary bound
-pub bound : (k r : Frame) (x : ℕ) (v : ℤ) → SFits w32 v → r ≡ record { function = k .function; block = k .block; done = k .done; bound = with (k .bound) x; opened = k .opened; promoted = k .promoted; calls = k .calls; values = set (k .values) x (toZ w32 (ofZ w32 v)) } → modelOf r ≡ bind (modelOf k) x v
-unfolding modelOf bind
-bound k r x v f e = rw (e, toZ-ofZ f)
-
 -- what the code answers, from what it read: each law has the shape of one of its returns
 module _ (s : List ℕ) (at : ℕ) where
   pub count-few : {n : ℕ} → n ≡ byteAt s at → n < 8 → n ≡ countAt s at
@@ -212,68 +139,68 @@ module _ (s : List ℕ) (at : ℕ) where
   unfolding countAt
   count-le = min-le-right (byteAt s at) 8
 
-  pub atom-end-value : {b f r : ℕ} → f ≡ past s at 1 → b ≡ byteAt s at → b ≡ 0 → r ≡ past s f 4 → r ≡ atomEnd s at
+  pub atom-end-value : {b f r : ℕ} → f ≡ past at 1 → b ≡ byteAt s at → b ≡ 0 → r ≡ past f 4 → r ≡ atomEnd s at
   unfolding atomEnd
   atom-end-value q e h d = rw (← e, eq-eqb _ 0 h, ← q) d
 
-  pub atom-end-temporary : {b f r : ℕ} → f ≡ past s at 1 → b ≡ byteAt s at → (b ≡ 0 → ⊥) → r ≡ past s f 1 → r ≡ atomEnd s at
+  pub atom-end-temporary : {b f r : ℕ} → f ≡ past at 1 → b ≡ byteAt s at → (b ≡ 0 → ⊥) → r ≡ past f 1 → r ≡ atomEnd s at
   unfolding atomEnd
   atom-end-temporary q e h d = rw (← e, ne-eqb _ 0 h, ← q) d
 
-  pub end-two : {a f b o r : ℕ} → f ≡ past s at 1 → a ≡ atomEnd s f → b ≡ byteAt s at → o ≡ operands b → o ≡ 2 → r ≡ atomEnd s a → r ≡ expressionEnd s at
+  pub end-two : {a f b o r : ℕ} → f ≡ past at 1 → a ≡ atomEnd s f → b ≡ byteAt s at → o ≡ operands b → o ≡ 2 → r ≡ atomEnd s a → r ≡ expressionEnd s at
   unfolding expressionEnd secondAt
   end-two {a} {f} {b} {o} e₁ e₂ e₃ e₄ h e₅ =
       let q : operands (byteAt s at) ≡ 2 = ap operands (sym e₃) ∙ sym e₄ ∙ h in
       rw (eq-eqb _ 2 q, ← e₁, ← e₂) e₅
 
-  pub end-one : {a f b o : ℕ} → f ≡ past s at 1 → a ≡ atomEnd s f → b ≡ byteAt s at → o ≡ operands b → (o ≡ 2 → ⊥) → a ≡ expressionEnd s at
+  pub end-one : {a f b o : ℕ} → f ≡ past at 1 → a ≡ atomEnd s f → b ≡ byteAt s at → o ≡ operands b → (o ≡ 2 → ⊥) → a ≡ expressionEnd s at
   unfolding expressionEnd secondAt
   end-one {a} {f} {b} {o} e₁ e₂ e₃ e₄ h =
       let q : operands (byteAt s at) ≡ 2 → ⊥ = λ z. h (e₄ ∙ ap operands e₃ ∙ z) in
       rw (ne-eqb _ 2 q, ← e₁) e₂
 
   module _ (k : Pool.Frame) where
-    pub atom-value : {b f : ℕ} {v : ℤ} → SFits w32 v → f ≡ past s at 1 → b ≡ byteAt s at → b ≡ 0 → v ≡ Values.signed (wordAt s f) → some (toZ w32 (ofZ w32 v)) ≡ evalAtom k (atomAt s at)
+    pub atom-value : {b f : ℕ} {v : ℤ} → SFits w32 v → f ≡ past at 1 → b ≡ byteAt s at → b ≡ 0 → v ≡ Values.signed (wordAt s f) → some (toZ w32 (ofZ w32 v)) ≡ evalAtom k (atomAt s at)
     unfolding evalAtom atomAt atomOf
     atom-value {b} {f} {v} g e₁ e₂ h e₃ = let z : byteAt s at ≡ 0 = sym e₂ ∙ h in rw (z, toZ-ofZ g, ← e₁) (ap some e₃)
 
-    pub atom-temporary : {b f x : ℕ} (v : Value) → f ≡ past s at 1 → b ≡ byteAt s at → (b ≡ 0 → ⊥) → x ≡ byteAt s f → valueOf v ≡ look k x → valueOf v ≡ evalAtom k (atomAt s at)
+    pub atom-temporary : {b f x : ℕ} (v : Value) → f ≡ past at 1 → b ≡ byteAt s at → (b ≡ 0 → ⊥) → x ≡ byteAt s f → valueOf v ≡ look k x → valueOf v ≡ evalAtom k (atomAt s at)
     unfolding evalAtom atomAt atomOf
     atom-temporary {b} {f} {x} v e₁ e₂ h e₃ e₄ = e₄ ∙ ap (look k) (e₃ ∙ ap (byteAt s) e₁) ∙ go (byteAt s at) (λ z. h (e₂ ∙ z))
       where
-        go : (n : ℕ) → (n ≡ 0 → ⊥) → look k (byteAt s (past s at 1)) ≡ evalAtom k (atomOf n (Values.signed (wordAt s (past s at 1))) (byteAt s (past s at 1)))
+        go : (n : ℕ) → (n ≡ 0 → ⊥) → look k (byteAt s (past at 1)) ≡ evalAtom k (atomOf n (Values.signed (wordAt s (past at 1))) (byteAt s (past at 1)))
         go zero z = absurd (z refl)
         go (suc n) z = refl
 
     -- an expression: an atom unbound; one atom; two
-    pub eval-unbound : {kind f : ℕ} (m : Value) → kind ≡ byteAt s at → f ≡ past s at 1 → valueOf m ≡ evalAtom k (atomAt s f) → not (m .ok) ≡ true → valueOf m ≡ eval k (expressionAt s at)
+    pub eval-unbound : {kind f : ℕ} (m : Value) → kind ≡ byteAt s at → f ≡ past at 1 → valueOf m ≡ evalAtom k (atomAt s f) → not (m .ok) ≡ true → valueOf m ≡ eval k (expressionAt s at)
     unfolding expressionAt
     eval-unbound {kind} {f} m e₁ e₂ e₃ h =
         let o = not-true (m .ok) h in
-        let z : evalAtom k (atomAt s (past s at 1)) ≡ none = ap (λ (i : ℕ). evalAtom k (atomAt s i)) (sym e₂) ∙ value-none m _ e₃ o in
+        let z : evalAtom k (atomAt s (past at 1)) ≡ none = ap (λ (i : ℕ). evalAtom k (atomAt s i)) (sym e₂) ∙ value-none m _ e₃ o in
         ap (λ (b : Bool). optional b (m .value)) o ∙ sym (eval-first k (byteAt s at) _ _ z)
 
-    pub eval-unary : {kind f o : ℕ} {r : ℤ} (m : Value) (w : ℤ) → SFits w32 r → SFits w32 (m .value) → kind ≡ byteAt s at → f ≡ past s at 1 → valueOf m ≡ evalAtom k (atomAt s f) → not (m .ok) ≡ false → o ≡ operands kind → (o ≡ 2 → ⊥) → r ≡ applied kind (toZ w32 (ofZ w32 (m .value))) w → some (toZ w32 (ofZ w32 r)) ≡ eval k (expressionAt s at)
+    pub eval-unary : {kind f o : ℕ} {r : ℤ} (m : Value) (w : ℤ) → SFits w32 r → SFits w32 (m .value) → kind ≡ byteAt s at → f ≡ past at 1 → valueOf m ≡ evalAtom k (atomAt s f) → not (m .ok) ≡ false → o ≡ operands kind → (o ≡ 2 → ⊥) → r ≡ applied kind (toZ w32 (ofZ w32 (m .value))) w → some (toZ w32 (ofZ w32 r)) ≡ eval k (expressionAt s at)
     unfolding expressionAt
     eval-unary {kind} {f} {o} {r} m w g i e₁ e₂ e₃ h e₄ d e₅ =
-        let z : evalAtom k (atomAt s (past s at 1)) ≡ some (m .value) = ap (λ (i : ℕ). evalAtom k (atomAt s i)) (sym e₂) ∙ value-some m _ e₃ (not-false (m .ok) h) in
+        let z : evalAtom k (atomAt s (past at 1)) ≡ some (m .value) = ap (λ (i : ℕ). evalAtom k (atomAt s i)) (sym e₂) ∙ value-some m _ e₃ (not-false (m .ok) h) in
         let q : operands (byteAt s at) ≡ 2 → ⊥ = λ y. d (e₄ ∙ ap operands e₁ ∙ y) in
         ap some (toZ-ofZ g ∙ e₅ ∙ ap (λ (v : ℤ). applied kind v w) (toZ-ofZ i) ∙ ap (λ (i : ℕ). applied i (m .value) w) e₁) ∙ sym (eval-one k (byteAt s at) _ _ (m .value) w q z)
 
-    pub eval-half-bound : {kind f a o : ℕ} (m n : Value) → kind ≡ byteAt s at → f ≡ past s at 1 → valueOf m ≡ evalAtom k (atomAt s f) → not (m .ok) ≡ false → o ≡ operands kind → o ≡ 2 → a ≡ atomEnd s f → valueOf n ≡ evalAtom k (atomAt s a) → not (n .ok) ≡ true → valueOf n ≡ eval k (expressionAt s at)
+    pub eval-half-bound : {kind f a o : ℕ} (m n : Value) → kind ≡ byteAt s at → f ≡ past at 1 → valueOf m ≡ evalAtom k (atomAt s f) → not (m .ok) ≡ false → o ≡ operands kind → o ≡ 2 → a ≡ atomEnd s f → valueOf n ≡ evalAtom k (atomAt s a) → not (n .ok) ≡ true → valueOf n ≡ eval k (expressionAt s at)
     unfolding expressionAt secondAt
     eval-half-bound {kind} {f} {a} {o} m n e₁ e₂ e₃ h e₄ d e₅ e₆ h′ =
-        let z : evalAtom k (atomAt s (past s at 1)) ≡ some (m .value) = ap (λ (i : ℕ). evalAtom k (atomAt s i)) (sym e₂) ∙ value-some m _ e₃ (not-false (m .ok) h) in
+        let z : evalAtom k (atomAt s (past at 1)) ≡ some (m .value) = ap (λ (i : ℕ). evalAtom k (atomAt s i)) (sym e₂) ∙ value-some m _ e₃ (not-false (m .ok) h) in
         let o′ = not-true (n .ok) h′ in
-        let y : evalAtom k (atomAt s (atomEnd s (past s at 1))) ≡ none = ap (λ (i : ℕ). evalAtom k (atomAt s i)) (ap (atomEnd s) (sym e₂) ∙ sym e₅) ∙ value-none n _ e₆ o′ in
+        let y : evalAtom k (atomAt s (atomEnd s (past at 1))) ≡ none = ap (λ (i : ℕ). evalAtom k (atomAt s i)) (ap (atomEnd s) (sym e₂) ∙ sym e₅) ∙ value-none n _ e₆ o′ in
         let q : operands (byteAt s at) ≡ 2 = ap operands (sym e₁) ∙ sym e₄ ∙ d in
         ap (λ (b : Bool). optional b (n .value)) o′ ∙ sym (eval-second k (byteAt s at) _ _ (m .value) q z y)
 
-    pub eval-binary : {kind f a o : ℕ} {r : ℤ} (m n : Value) → SFits w32 r → SFits w32 (m .value) → SFits w32 (n .value) → kind ≡ byteAt s at → f ≡ past s at 1 → valueOf m ≡ evalAtom k (atomAt s f) → not (m .ok) ≡ false → o ≡ operands kind → o ≡ 2 → a ≡ atomEnd s f → valueOf n ≡ evalAtom k (atomAt s a) → not (n .ok) ≡ false → r ≡ applied kind (toZ w32 (ofZ w32 (m .value))) (toZ w32 (ofZ w32 (n .value))) → some (toZ w32 (ofZ w32 r)) ≡ eval k (expressionAt s at)
+    pub eval-binary : {kind f a o : ℕ} {r : ℤ} (m n : Value) → SFits w32 r → SFits w32 (m .value) → SFits w32 (n .value) → kind ≡ byteAt s at → f ≡ past at 1 → valueOf m ≡ evalAtom k (atomAt s f) → not (m .ok) ≡ false → o ≡ operands kind → o ≡ 2 → a ≡ atomEnd s f → valueOf n ≡ evalAtom k (atomAt s a) → not (n .ok) ≡ false → r ≡ applied kind (toZ w32 (ofZ w32 (m .value))) (toZ w32 (ofZ w32 (n .value))) → some (toZ w32 (ofZ w32 r)) ≡ eval k (expressionAt s at)
     unfolding expressionAt secondAt
     eval-binary {kind} {f} {a} {o} {r} m n g i j e₁ e₂ e₃ h e₄ d e₅ e₆ h′ e₇ =
-        let z : evalAtom k (atomAt s (past s at 1)) ≡ some (m .value) = ap (λ (i : ℕ). evalAtom k (atomAt s i)) (sym e₂) ∙ value-some m _ e₃ (not-false (m .ok) h) in
-        let y : evalAtom k (atomAt s (atomEnd s (past s at 1))) ≡ some (n .value) = ap (λ (i : ℕ). evalAtom k (atomAt s i)) (ap (atomEnd s) (sym e₂) ∙ sym e₅) ∙ value-some n _ e₆ (not-false (n .ok) h′) in
+        let z : evalAtom k (atomAt s (past at 1)) ≡ some (m .value) = ap (λ (i : ℕ). evalAtom k (atomAt s i)) (sym e₂) ∙ value-some m _ e₃ (not-false (m .ok) h) in
+        let y : evalAtom k (atomAt s (atomEnd s (past at 1))) ≡ some (n .value) = ap (λ (i : ℕ). evalAtom k (atomAt s i)) (ap (atomEnd s) (sym e₂) ∙ sym e₅) ∙ value-some n _ e₆ (not-false (n .ok) h′) in
         let q : operands (byteAt s at) ≡ 2 = ap operands (sym e₁) ∙ sym e₄ ∙ d in
         let both : applied kind (toZ w32 (ofZ w32 (m .value))) (toZ w32 (ofZ w32 (n .value))) ≡ applied kind (m .value) (n .value) = rw (toZ-ofZ i, toZ-ofZ j) in
         ap some (toZ-ofZ g ∙ e₇ ∙ both ∙ ap (λ (i : ℕ). applied i (m .value) (n .value)) e₁) ∙ sym (eval-two k (byteAt s at) _ _ (m .value) (n .value) q z y)
@@ -287,9 +214,3 @@ plus-of f g = rw (toZ-ofZ f, toZ-ofZ g)
 -- a bit that is added, as code shifts it
 pub bit : (x : ℕ) → x < 16 → 1 * 2 ^ x % 65536 ≡ 2 ^ x
 bit x h = let l : 2 ^ x < 2 ^ 16 = pow-lt h in mod-eq-of-lt (omega arith) ∙ one-mul (2 ^ x)
-
-pub with-is : (Γ x : ℕ) → x < 16 → (Γ / 2 ^ x % 2 ≡ 1 → ⊥) → Γ + 1 * 2 ^ x % 65536 ≡ with Γ x
-with-is Γ x h n = ap (λ (m : ℕ). Γ + m) (bit x h) ∙ sym (with-new Γ x n)
-
-pub with-fits : (Γ x : ℕ) → Fits w16 Γ → x < 16 → (Γ / 2 ^ x % 2 ≡ 1 → ⊥) → Fits w16 (Γ + 1 * 2 ^ x % 65536)
-with-fits Γ x f h n = record { fits = subst⁻¹ (λ (m : ℕ). m < 2 ^ 16) (with-is Γ x h n) (with-lt Γ x 16 h (f .fits)) }

@@ -1,5 +1,5 @@
 -- The loops over statements and argument lists: what one turn adds.
-use Prim.Native.Nat.{ℕ, zero, suc, _+_, _-_, min, _≤_, _<_}
+use Prim.Native.Nat.{ℕ, zero, suc, _+_, _-_, _≤_, _<_}
 use mathlib.Core.Path.{_≡_, refl, sym, ap, subst, _∙_}
 use mathlib.Core.Bool.{true, false, not}
 use mathlib.Core.Option.{Option, none, some}
@@ -12,19 +12,17 @@ use mir.Val.{SFits, toZ, ofZ}
 use mir.Facts.{toZ-ofZ}
 use mir.Syntax.{w32}
 use lib.IntN.{ℤ, pos}
-use lib.ListN.{length, getD, take, drop, set, length-take, length-set}
-use lib.Seq.{take-suc-set, drop-cons, getD-take}
+use lib.ListN.{length, getD, take, drop, set, length-set}
+use lib.Seq.{take-suc-set, drop-cons}
 use Rattle.model.specs.Lists.{Each}
 use Rattle.model.specs.Pool as Pool
 use Rattle.model.specs.Pool.{temporaries}
 use Rattle.model.specs.Frames as Frames
 use Rattle.model.specs.Frames.{look, lookAll, bind, bindAll}
-use Rattle.frames.specs.declared.Frame.{Frame}
-use Rattle.frames.specs.Frame.{modelOf}
 use Rattle.eval.specs.declared.Value.{Value}
-use Rattle.eval.specs.declared.Values.{Values}
-use Rattle.eval.specs.Bytes.{byteAt, past, run, countAt, argumentsAt, statementEnd, statementsEnd}
-use Rattle.eval.specs.Given.{valueOf, valuesOf, Binds, BindsAll}
+use Rattle.bytes.specs.Bytes.{byteAt, past}
+use Rattle.eval.specs.Code.{run, countAt, argumentsAt, statementEnd, statementsEnd}
+use Rattle.eval.specs.Given.{valueOf, lookedIn}
 use Rattle.eval.proofs.Leaves.{count-le, value-none, value-some}
 
 -- statements: one passed
@@ -39,7 +37,7 @@ statements-none s at zero h = refl
 statements-none s at (suc n) h = absurd (not-suc-le-zero h)
 
 -- a run, from its first byte
-run-goes : (s : List ℕ) (p n i : ℕ) → i < n → run s p (n - i) ≡ byteAt s p ∷ run s (past s p 1) (n - (i + 1))
+run-goes : (s : List ℕ) (p n i : ℕ) → i < n → run s p (n - i) ≡ byteAt s p ∷ run s (past p 1) (n - (i + 1))
 unfolding run
 run-goes s p n i h = let e : n - i ≡ suc (n - (i + 1)) = omega arith in rw e
 
@@ -83,7 +81,7 @@ module _ (k : Pool.Frame) where
     read-starts out h l =
         record { within = omega arith; few = h; room = l; is = let e : n - 0 ≡ n = omega arith in rw e (ahead-nil (lookAll k (run s p₀ n))) }
 
-    pub read-goes : (out : List ℤ) (p i : ℕ) (v : Value) {x q : ℕ} → Read out p i → i < n → x ≡ byteAt s p → q ≡ past s p 1 → valueOf v ≡ look k x → not (v .ok) ≡ false → SFits w32 (v .value)
+    pub read-goes : (out : List ℤ) (p i : ℕ) (v : Value) {x q : ℕ} → Read out p i → i < n → x ≡ byteAt s p → q ≡ past p 1 → valueOf v ≡ look k x → not (v .ok) ≡ false → SFits w32 (v .value)
         → Read (set out i (toZ w32 (ofZ w32 (v .value)))) q (i + 1)
     read-goes out p i v h l e₁ e₂ e₃ t f =
         let front : take (i + 1) (set out i (toZ w32 (ofZ w32 (v .value)))) ≡ take i out ++ (v .value ∷ []) =
@@ -96,7 +94,7 @@ module _ (k : Pool.Frame) where
           is =
               h .is
               ∙ ap (λ (x̄ : List ℕ). ahead (take i out) (lookAll k x̄)) (run-goes s p n i l)
-              ∙ look-cons (byteAt s p) (run s (past s p 1) (n - (i + 1))) (v .value) (take i out) (ap (look k) (sym e₁) ∙ value-some v _ e₃ (not-false (v .ok) t))
+              ∙ look-cons (byteAt s p) (run s (past p 1) (n - (i + 1))) (v .value) (take i out) (ap (look k) (sym e₁) ∙ value-some v _ e₃ (not-false (v .ok) t))
               ∙ rw (e₂, front);
         }
 
@@ -117,55 +115,42 @@ module _ (k : Pool.Frame) where
         ∙ ap some (append-nil (take i out) ∙ ap (λ (j : ℕ). take j out) e))
 
 -- the temporaries of an argument list are a run: what the code answers of them
-pub arguments-are : (s : List ℕ) (at : ℕ) {p n : ℕ} → p ≡ past s at 1 → n ≡ countAt s at → run s p n ≡ argumentsAt s at
+pub arguments-are : (s : List ℕ) (at : ℕ) {p n : ℕ} → p ≡ past at 1 → n ≡ countAt s at → run s p n ≡ argumentsAt s at
 unfolding argumentsAt
 arguments-are s at e d = rw (e, d)
 
-pub arguments-unbound : (k : Pool.Frame) (s : List ℕ) (at : ℕ) {p₀ n x : ℕ} (out : List ℤ) (p i : ℕ) (v : Value) → p₀ ≡ past s at 1 → n ≡ countAt s at → Read k s p₀ n out p i → i < n → x ≡ byteAt s p → valueOf v ≡ look k x → not (v .ok) ≡ true → none ≡ lookAll k (argumentsAt s at)
+pub arguments-unbound : (k : Pool.Frame) (s : List ℕ) (at : ℕ) {p₀ n x : ℕ} (out : List ℤ) (p i : ℕ) (v : Value) → p₀ ≡ past at 1 → n ≡ countAt s at → Read k s p₀ n out p i → i < n → x ≡ byteAt s p → valueOf v ≡ look k x → not (v .ok) ≡ true → none ≡ lookAll k (argumentsAt s at)
 arguments-unbound k s at {p₀} {n} out p i v e d h l e₁ e₂ t = read-stops k s p₀ n out p i v h l e₁ e₂ t ∙ ap (lookAll k) (arguments-are s at e d)
 
-pub arguments-bound : (k : Pool.Frame) (s : List ℕ) (at : ℕ) {p₀ n : ℕ} (out : List ℤ) (p i : ℕ) → p₀ ≡ past s at 1 → n ≡ countAt s at → Read k s p₀ n out p i → n ≤ i → some (take n out) ≡ lookAll k (argumentsAt s at)
-arguments-bound k s at {p₀} {n} out p i e d h l = read-ends k s p₀ n out p i h l ∙ ap (lookAll k) (arguments-are s at e d)
+pub arguments-bound : (k : Pool.Frame) (s : List ℕ) (at : ℕ) {p₀ n : ℕ} (out : List ℤ) (p i : ℕ) → p₀ ≡ past at 1 → n ≡ countAt s at → Read k s p₀ n out p i → n ≤ i → lookedIn s at true out ≡ lookAll k (argumentsAt s at)
+arguments-bound k s at {p₀} {n} out p i e d h l = ap (λ (j : ℕ). some (take j out)) (sym d) ∙ read-ends k s p₀ n out p i h l ∙ ap (lookAll k) (arguments-are s at e d)
 
 pub count-bound : (s : List ℕ) (at : ℕ) {n : ℕ} → n ≡ countAt s at → n ≤ 8
 count-bound s at e = rw e (count-le s at)
 
 -- what is bound so far, of the temporaries of a list
-module _ (s : List ℕ) (p₀ n : ℕ) (v : Values) (r₀ : Frame) where
-  abbrev Bound : Frame → ℕ → ℕ → Type 0
-  Bound r p i = Each (λ x. x < temporaries) (run s p (n - i)) × (bindAll (modelOf r₀) (run s p₀ n) (valuesOf v) ≡ bindAll (modelOf r) (run s p (n - i)) (drop i (valuesOf v)))
-
-  pub record Binding (r : Frame) (p i : ℕ) : Type 0 where
+module _ (s : List ℕ) (p₀ n : ℕ) (v̄ : List ℤ) (k₀ : Pool.Frame) where
+  pub record Binding (k : Pool.Frame) (p i : ℕ) : Type 0 where
     pub within : i ≤ n
-    pub few : n ≤ 8
-    pub is : Each (λ x. x < temporaries) (run s p₀ n) → n ≡ length (valuesOf v) → Bound r p i
+    pub each : Each (λ x. x < temporaries) (run s p (n - i))
+    pub is : bindAll k₀ (run s p₀ n) v̄ ≡ bindAll k (run s p (n - i)) (drop i v̄)
 
-  pub binding-starts : n ≤ 8 → Binding r₀ p₀ 0
-  binding-starts h =
-      record { within = omega arith; few = h; is = λ g e. let z : n - 0 ≡ n = omega arith in rw z (g, refl) }
+  pub binding-starts : Each (λ x. x < temporaries) (run s p₀ n) → Binding k₀ p₀ 0
+  binding-starts h = let z : n - 0 ≡ n = omega arith in record { within = omega arith; each = rw z h; is = rw z }
 
-  pub binding-goes : (r r′ : Frame) (p i : ℕ) {x q : ℕ} → Binding r p i → i < n → x ≡ byteAt s p → q ≡ past s p 1 → SFits w32 (getD (v .at) i (pos 0)) → Binds r x (toZ w32 (ofZ w32 (getD (v .at) i (pos 0)))) r′ → Binding r′ q (i + 1)
+  module _ (k : Pool.Frame) (p i : ℕ) (h : Binding k p i) (l : i < n) where
+    left : Each (λ x. x < temporaries) (byteAt s p ∷ run s (past p 1) (n - (i + 1)))
+    left = subst (Each (λ x. x < temporaries)) (run-goes s p n i l) (h .each)
+
+    pub binding-next : byteAt s p < temporaries
+    binding-next = left .0
+
+    pub binding-goes : {q : ℕ} → n ≤ length v̄ → q ≡ past p 1 → Binding (bind k (byteAt s p) (getD v̄ i (pos 0))) q (i + 1)
+    unfolding bindAll
+    binding-goes m e =
+        let split : drop i v̄ ≡ getD v̄ i (pos 0) ∷ drop (i + 1) v̄ = rw (add-one i) (drop-cons v̄ i (pos 0) (omega arith)) in
+        record { within = omega arith; each = rw e (left .1); is = h .is ∙ rw (run-goes s p n i l, split, e) }
+
+  pub binding-ends : (k : Pool.Frame) (p i : ℕ) → Binding k p i → n ≤ i → k ≡ bindAll k₀ (run s p₀ n) v̄
   unfolding bindAll
-  binding-goes r r′ p i {x} {q} h l e₁ e₂ f b = record { within = omega arith; few = h .few; is = λ g e. go g e (h .is g e) }
-    where
-      go : Each (λ y. y < temporaries) (run s p₀ n) → n ≡ length (valuesOf v) → Bound r p i → Bound r′ q (i + 1)
-      go g e (a, d) =
-          let m : n ≡ min (v .count) (length (v .at)) = e ∙ length-take (v .count) (v .at) in
-          let w : getD (valuesOf v) i (pos 0) ≡ getD (v .at) i (pos 0) = getD-take (v .count) (v .at) i (pos 0) (omega arith) in
-          let split : drop i (valuesOf v) ≡ getD (v .at) i (pos 0) ∷ drop (i + 1) (valuesOf v) = rw (add-one i, ← w) (drop-cons (valuesOf v) i (pos 0) (omega arith)) in
-          let bs : Each (λ y. y < temporaries) (byteAt s p ∷ run s (past s p 1) (n - (i + 1))) = subst (Each (λ y. y < temporaries)) (run-goes s p n i l) a in
-          let to : modelOf r′ ≡ bind (modelOf r) (byteAt s p) (getD (v .at) i (pos 0)) = rw (← e₁, ← toZ-ofZ f) (b (rw e₁ (bs .0))) in
-          (rw e₂ (bs .1), d ∙ bind-cons (run-goes s p n i l) split to)
-        where
-          bind-cons : {ȳ : List ℕ} {w̄ : List ℤ} → ȳ ≡ byteAt s p ∷ run s (past s p 1) (n - (i + 1)) → w̄ ≡ getD (v .at) i (pos 0) ∷ drop (i + 1) (valuesOf v) → modelOf r′ ≡ bind (modelOf r) (byteAt s p) (getD (v .at) i (pos 0)) → bindAll (modelOf r) ȳ w̄ ≡ bindAll (modelOf r′) (run s q (n - (i + 1))) (drop (i + 1) (valuesOf v))
-          bind-cons e d t = rw (e, d, t, e₂)
-
-  pub binding-ends : (r : Frame) (p i : ℕ) → Binding r p i → n ≤ i → Each (λ x. x < temporaries) (run s p₀ n) → n ≡ length (valuesOf v) → modelOf r ≡ bindAll (modelOf r₀) (run s p₀ n) (valuesOf v)
-  unfolding bindAll
-  binding-ends r p i h l g e = sym (h .is g e .1 ∙ rw (run-ends s p n i l))
-
--- all of them bound
-pub arguments-taken : (s : List ℕ) (at : ℕ) {p₀ n : ℕ} (v : Values) (r₀ r : Frame) (p i : ℕ) → p₀ ≡ past s at 1 → n ≡ countAt s at → Binding s p₀ n v r₀ r p i → n ≤ i → BindsAll s at r₀ v r
-arguments-taken s at {p₀} {n} v r₀ r p i e d h l g q =
-    let a = arguments-are s at e d in
-    rw (← a) (binding-ends s p₀ n v r₀ r p i h l (rw a g) (d ∙ q))
+  binding-ends k p i h l = sym (h .is ∙ rw (run-ends s p n i l))

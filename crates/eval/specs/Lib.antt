@@ -1,2 +1,2 @@
-pub mod Bytes
+pub mod Code
 pub mod Given

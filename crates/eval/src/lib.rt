@@ -1,16 +1,15 @@
 // A block's code read in place: bytes, atoms, expressions, statements and argument lists at an offset, and what they come to in
-// a frame. An offset moves only within the table, so that every function takes any bytes.
-use frames::Frame;
+// the frame at a place of the pool's words. An offset moves only within the table, so that every function takes any bytes.
 ghost use mathlib.Core.Path.{_≡_};
-ghost use Prim.Native.Nat.{_<_};
+ghost use Prim.Native.Nat.{_+_, _≤_};
 ghost use lib.ListN.{length};
 ghost use Rattle.model.specs.Values.{signed};
-ghost use Rattle.model.specs.Sets as Sets;
 ghost use Rattle.model.specs.Frames as Frames;
-ghost use Rattle.frames.specs.Frame.{modelOf};
-ghost use Rattle.eval.specs.Bytes.{byteAt, past, countAt, argumentsAt, listEnd, halfAt, wordAt, atomAt, atomEnd, expressionAt, expressionEnd, statementEnd, statementsEnd, headEnd};
-ghost use Rattle.eval.specs.Bytes as Bytes;
-ghost use Rattle.eval.specs.Given.{valueOf, valuesOf, lookedOf, applied, Binds, BindsAll};
+ghost use Rattle.model.specs.Pool.{frameWords};
+ghost use Rattle.frames.specs.InPlace.{frameAt};
+ghost use Rattle.eval.specs.Code.{most, countAt, argumentsAt, listEnd, atomAt, atomEnd, expressionAt, expressionEnd, statementEnd, statementsEnd, headEnd};
+ghost use Rattle.bytes.specs.Bytes.{wordAt};
+ghost use Rattle.eval.specs.Given.{valueOf, lookedIn, applied, Binds, BindsAll};
 
 // A value, or none.
 pub struct Value {
@@ -30,48 +29,23 @@ pub struct Looked {
     pub values: Values,
 }
 
-// The byte at an offset, and 0 past the end.
-pub fn byte(s: &[u8], at: usize) -> u8
-    ensures { λ r. ⌜ r ≡ byteAt (now (s .entry)) at ⌝ }
-{
-    if at < s.len() { s[at] } else { 0 }
-}
-
-// The offset n bytes on, as long as that is within the table.
-pub fn after(s: &[u8], at: usize, n: usize) -> usize
-    ensures { λ r. ⌜ r ≡ past (now (s .entry)) at n ⌝ }
-{
-    if at <= s.len() {
-        if n <= s.len() - at {
-            return at + n;
-        }
-    }
-    at
-}
-
-// The number of two bytes, and the value of four.
-fn half(s: &[u8], at: usize) -> u16
-    ensures { λ r. ⌜ r ≡ halfAt (now (s .entry)) at ⌝ }
-{
-    words::half(byte(s, at), byte(s, after(s, at, 1)))
-}
-
+// The value of four bytes.
 fn word(s: &[u8], at: usize) -> i32
     ensures { λ r. ⌜ r ≡ signed (wordAt (now (s .entry)) at) ⌝ }
 {
-    words::signed(words::word(half(s, at), half(s, after(s, at, 2))))
+    words::signed(bytes::word(s, at))
 }
 
-// The value of a bound temporary.
-pub fn look(k: Frame, x: u8) -> Value
-    ensures { λ r. ⌜ valueOf r ≡ Frames.look (modelOf k) x ⌝ }
+// The value of a bound temporary of the frame at k.
+pub fn look(ws: &[i32], k: usize, x: u8) -> Value
+    requires { ⌜ k + frameWords ≤ length (now ws) ⌝ }
+    ensures { λ r. ⌜ valueOf r ≡ Frames.look (frameAt (now (ws .entry)) k) x ⌝ }
 {
     if x < 16 {
-        if (k.bound >> x) % 2 == 1 {
-            let i = x as usize;
+        if (frames::bound(ws, k) >> x) % 2 == 1 {
             return Value {
                 ok: true,
-                value: k.values[i],
+                value: frames::value(ws, k, x),
             };
         }
     }
@@ -82,41 +56,29 @@ pub fn look(k: Frame, x: u8) -> Value
 }
 
 // An atom's value, and where the atom ends.
-fn atom(s: &[u8], at: usize, k: Frame) -> Value
-    ensures { λ r. ⌜ valueOf r ≡ Frames.evalAtom (modelOf k) (atomAt (now (s .entry)) at) ⌝ }
+fn atom(s: &[u8], at: usize, ws: &[i32], k: usize) -> Value
+    requires { ⌜ k + frameWords ≤ length (now ws) ⌝ }
+    ensures { λ r. ⌜ valueOf r ≡ Frames.evalAtom (frameAt (now (ws .entry)) k) (atomAt (now (s .entry)) at) ⌝ }
 {
-    let first = after(s, at, 1);
-    if byte(s, at) == 0 {
+    let first = bytes::after(at, 1);
+    if bytes::byte(s, at) == 0 {
         return Value {
             ok: true,
             value: word(s, first),
         };
     }
-    look(k, byte(s, first))
+    look(ws, k, bytes::byte(s, first))
 }
 
 fn atom_end(s: &[u8], at: usize) -> usize
     ensures { λ r. ⌜ r ≡ atomEnd (now (s .entry)) at ⌝ }
 {
-    let first = after(s, at, 1);
-    if byte(s, at) == 0 {
-        after(s, first, 4)
+    let first = bytes::after(at, 1);
+    if bytes::byte(s, at) == 0 {
+        bytes::after(first, 4)
     } else {
-        after(s, first, 1)
+        bytes::after(first, 1)
     }
-}
-
-// How many atoms an expression of each kind has.
-const OPERANDS: [u8; 4] = [1, 1, 2, 2];
-
-fn operands(kind: u8) -> u8
-    ensures { λ r. ⌜ r ≡ Bytes.operands kind ⌝ }
-{
-    if kind < 4 {
-        let i = kind as usize;
-        return OPERANDS[i];
-    }
-    2
 }
 
 // The value of an expression of a kind, from those of its atoms: all arithmetic on values is here.
@@ -136,22 +98,23 @@ fn apply(kind: u8, m: i32, n: i32) -> i32
 }
 
 // An expression's value, and where the expression ends.
-pub fn eval(s: &[u8], at: usize, k: Frame) -> Value
-    ensures { λ r. ⌜ valueOf r ≡ Frames.eval (modelOf k) (expressionAt (now (s .entry)) at) ⌝ }
+pub fn eval(s: &[u8], at: usize, ws: &[i32], k: usize) -> Value
+    requires { ⌜ k + frameWords ≤ length (now ws) ⌝ }
+    ensures { λ r. ⌜ valueOf r ≡ Frames.eval (frameAt (now (ws .entry)) k) (expressionAt (now (s .entry)) at) ⌝ }
 {
-    let kind = byte(s, at);
-    let first = after(s, at, 1);
-    let m = atom(s, first, k);
+    let kind = bytes::byte(s, at);
+    let first = bytes::after(at, 1);
+    let m = atom(s, first, ws, k);
     if !m.ok {
         return m;
     }
-    if operands(kind) != 2 {
+    if bytes::operands(kind as usize) != 2 {
         return Value {
             ok: true,
             value: apply(kind, m.value, 0),
         };
     }
-    let n = atom(s, atom_end(s, first), k);
+    let n = atom(s, atom_end(s, first), ws, k);
     if !n.ok {
         return n;
     }
@@ -164,8 +127,8 @@ pub fn eval(s: &[u8], at: usize, k: Frame) -> Value
 pub fn expression_end(s: &[u8], at: usize) -> usize
     ensures { λ r. ⌜ r ≡ expressionEnd (now (s .entry)) at ⌝ }
 {
-    let second = atom_end(s, after(s, at, 1));
-    if operands(byte(s, at)) == 2 {
+    let second = atom_end(s, bytes::after(at, 1));
+    if bytes::operands(bytes::byte(s, at) as usize) == 2 {
         atom_end(s, second)
     } else {
         second
@@ -176,7 +139,7 @@ pub fn expression_end(s: &[u8], at: usize) -> usize
 fn statement_end(s: &[u8], at: usize) -> usize
     ensures { λ r. ⌜ r ≡ statementEnd (now (s .entry)) at ⌝ }
 {
-    expression_end(s, after(s, at, 1))
+    expression_end(s, bytes::after(at, 1))
 }
 
 pub fn statements_end(s: &[u8], at: usize, n: u8) -> usize
@@ -195,96 +158,68 @@ pub fn statements_end(s: &[u8], at: usize, n: u8) -> usize
 pub fn list_end(s: &[u8], at: usize) -> usize
     ensures { λ r. ⌜ r ≡ listEnd (now (s .entry)) at ⌝ }
 {
-    let n = byte(s, at);
-    after(s, after(s, at, 1), n as usize)
+    let n = bytes::byte(s, at);
+    bytes::after(bytes::after(at, 1), n as usize)
 }
 
 pub fn head_end(s: &[u8], at: usize) -> usize
     ensures { λ r. ⌜ r ≡ headEnd (now (s .entry)) at ⌝ }
 {
-    list_end(s, after(s, list_end(s, at), 2))
+    list_end(s, bytes::after(list_end(s, at), 2))
 }
 
-// How many temporaries an argument list has, and how many values there are: 8 at most.
+// How many temporaries an argument list has: 8 at most.
 pub fn count(s: &[u8], at: usize) -> u8
     ensures { λ r. ⌜ r ≡ countAt (now (s .entry)) at ⌝ }
 {
-    let n = byte(s, at);
+    let n = bytes::byte(s, at);
     if n < 8 { n } else { 8 }
 }
 
-pub fn given(v: Values) -> u8
-    ensures { λ r. ⌜ r ≡ length (valuesOf v) ⌝ }
-{
-    if v.count < 8 { v.count } else { 8 }
-}
-
-// The values of the temporaries of an argument list: all are bound, or none is given.
-pub fn look_all(s: &[u8], at: usize, k: Frame) -> Looked
-    ensures { λ r. ⌜ lookedOf r ≡ Frames.lookAll (modelOf k) (argumentsAt (now (s .entry)) at) ⌝ }
+// The values of the temporaries of an argument list, put into a buffer, if all are bound.
+pub fn look_all(s: &[u8], at: usize, ws: &[i32], k: usize, out: &mut [i32]) -> bool
+    requires { ⌜ (k + frameWords ≤ length (now ws)) × (length (now out) ≡ most) ⌝ }
+    ensures { λ r. ⌜ lookedIn (now (s .entry)) at r (now (out .exit)) ≡ Frames.lookAll (frameAt (now (ws .entry)) k) (argumentsAt (now (s .entry)) at) ⌝ }
 {
     let n = count(s, at);
-    let mut out = [0i32; 8];
-    let mut p = after(s, at, 1);
+    let mut p = bytes::after(at, 1);
     let mut i: u8 = 0;
     while i < n {
-        let v = look(k, byte(s, p));
+        let v = look(ws, k, bytes::byte(s, p));
         if !v.ok {
-            return Looked {
-                ok: false,
-                values: Values { count: 0, at: out },
-            };
+            return false;
         }
         let j = i as usize;
         let value = v.value;
         out[j] = value;
-        p = after(s, p, 1);
+        p = bytes::after(p, 1);
         i += 1;
     }
-    Looked {
-        ok: true,
-        values: Values { count: n, at: out },
-    }
+    true
 }
 
-// A set of temporaries with one more.
-fn with(bound: u16, x: u8) -> u16
-    requires { ⌜ x < 16 ⌝ }
-    ensures { λ r. ⌜ r ≡ Sets.with bound x ⌝ }
+// A temporary of the frame at k is bound to a value.
+pub fn bind(ws: &mut [i32], k: usize, x: u8, v: i32)
+    requires { ⌜ k + frameWords ≤ length (now ws) ⌝ }
+    ensures { λ _. ⌜ Binds (now (ws .entry)) k x v (now (ws .exit)) ⌝ }
 {
-    if (bound >> x) % 2 == 1 {
-        bound
-    } else {
-        bound + (1 << x)
-    }
-}
-
-// The frame with a temporary bound.
-pub fn bind(k: Frame, x: u8, v: i32) -> Frame
-    ensures { λ r. ⌜ Binds k x v r ⌝ }
-{
-    let mut r = k;
     if x < 16 {
-        let i = x as usize;
-        r.bound = with(r.bound, x);
-        r.values[i] = v;
+        frames::bind(ws, k, x, v);
     }
-    r
 }
 
-// The frame with the temporaries of an argument list bound to values, of which there are as many.
-pub fn bind_all(s: &[u8], at: usize, k: Frame, v: Values) -> Frame
-    ensures { λ r. ⌜ BindsAll (now (s .entry)) at k v r ⌝ }
+// The temporaries of an argument list are bound in the frame at k, each to its value of a buffer.
+pub fn bind_all(s: &[u8], at: usize, ws: &mut [i32], k: usize, values: &[i32])
+    requires { ⌜ (k + frameWords ≤ length (now ws)) × (length (now values) ≡ most) ⌝ }
+    ensures { λ _. ⌜ BindsAll (now (s .entry)) at (now (ws .entry)) k (now (values .entry)) (now (ws .exit)) ⌝ }
 {
     let n = count(s, at);
-    let mut r = k;
-    let mut p = after(s, at, 1);
+    let mut p = bytes::after(at, 1);
     let mut i: u8 = 0;
     while i < n {
         let j = i as usize;
-        r = bind(r, byte(s, p), v.at[j]);
-        p = after(s, p, 1);
+        bind(ws, k, bytes::byte(s, p), values[j]);
+        p = bytes::after(p, 1);
         i += 1;
     }
-    r
 }

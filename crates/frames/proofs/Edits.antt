@@ -1,7 +1,7 @@
 -- Edits of the words that hold a pool, and the pool that they hold afterwards.
 use Prim.Native.Nat.{ℕ, suc, _+_, _*_, _-_, _≤_, _<_}
 use mathlib.Core.Path.{_≡_, refl, sym, ap, subst, _∙_}
-use mathlib.Core.List.{List, [], _∷_, _++_, reverse, reverse-cons, append-assoc, append-nil}
+use mathlib.Core.List.{List, [], _∷_, _++_, reverse, reverse-cons, append-nil}
 use native.Mathlib.Omega.{arith}
 use lib.Dec.{lit≤}
 use lib.IntN.{ℤ, pos}
@@ -14,8 +14,8 @@ use Rattle.model.proofs.Facts.{each-right}
 use Rattle.model.proofs.Words.{FrameFits, ThreadFits, PoolFits, each-reverse, frame-length, thread-length}
 use Rattle.words.specs.Runs.{pasted, cleared}
 use Rattle.frames.specs.Held.{startOf, ThreadAt, FrameAt}
-use Rattle.frames.proofs.Parts.{zeros, paste-parts, paste-paste, paste-all, set-pasted, cleared-pasted}
-use Rattle.frames.proofs.Places.{written-one, set-in, within-long, framesWords, frames-length, thread-parts, Around, around, within-fits, around-fits, within, pool-within, paste-in, read-in, Beside, beside, beside-fits, amid, thread-amid, paste-amid, read-amid}
+use Rattle.frames.proofs.Parts.{zeros, paste-parts, paste-all, set-pasted, cleared-pasted}
+use Rattle.frames.proofs.Places.{written-one, set-in, framesWords, frames-length, thread-parts, Around, around, within-fits, around-fits, within, pool-within, paste-in, read-in, Beside, beside, beside-fits, amid, thread-amid, paste-amid, read-amid}
 
 -- one frame of a thread of a pool
 pub record Slot (a b : Pool) (t : Thread) (K₁ K₂ : List Frame) (k : Frame) : Type 0 where
@@ -121,65 +121,53 @@ call-promoted {a} {b} {t} {t′} {K₁} {K₂} {k} {d} {i} {j} n h e e′ at p l
     rw (set-pasted d at (pos n) l)
     (frame-edited h e e′ (promoted-fits n (s .fits)) (pos n ∷ []) at 5 p (lit≤ tt) (promoted-word k n))
 
-zeros-split : (w : List ℤ) (s z : ℕ) → w ++ zeros (s + z) ≡ w ++ zeros s ++ zeros z
-zeros-split w s z = ap (λ (v : List ℤ). w ++ v) (sym (replicate-append-replicate s z (pos 0))) ∙ sym (append-assoc w (zeros s) (zeros z))
-
--- a thread's newest two frames, over the frames K: the newer one may not be there
-module _ (K : List Frame) (f : Each FrameFits K) (few : suc (length K) < mostFrames) where
+-- the room above a thread's frames K: free, or with one more frame
+module _ (K : List Frame) (f : Each FrameFits K) (few : length K < mostFrames) where
   abbrev above : ℕ
-  above = (mostFrames - suc (suc (length K))) * frameWords
+  above = (mostFrames - suc (length K)) * frameWords
 
-  single : (k : Frame) → FrameFits k
-      → wordsOfThread (record { newest = k; older = K })
-      ≡ pos (suc (length K)) ∷ (framesWords (reverse K) ++ (wordsOfFrame k ++ zeros frameWords ++ zeros above))
-  single k g =
-      thread-parts (record { newest = k; older = K }) (reverse K) (k ∷ []) (frameWords + above) (reverse-cons k K)
-      (omega (arith, length-reverse K)) (each-reverse FrameFits K f) (g, tt)
-      ∙ ap (λ (w : List ℤ). pos (suc (length K)) ∷ (framesWords (reverse K) ++ (w ++ zeros (frameWords + above)))) (written-one wordsOfFrame k)
-      ∙ ap (λ (w : List ℤ). pos (suc (length K)) ∷ (framesWords (reverse K) ++ w)) (zeros-split (wordsOfFrame k) frameWords above)
-
-  double : (k l : Frame) → FrameFits k → FrameFits l
-      → wordsOfThread (record { newest = l; older = k ∷ K })
-      ≡ pos (suc (suc (length K))) ∷ (framesWords (reverse K) ++ (wordsOfFrame k ++ wordsOfFrame l ++ zeros above))
+  free-above : (t : Thread) → frames t ≡ K
+      → wordsOfThread t ≡ pos (length K) ∷ (framesWords (reverse K) ++ (zeros frameWords ++ zeros above))
   unfolding concat
-  double k l g h =
-      thread-parts (record { newest = l; older = k ∷ K }) (reverse K) (k ∷ l ∷ []) above
-      (reverse-cons l (k ∷ K) ∙ ap (λ (L : List Frame). L ++ (l ∷ [])) (reverse-cons k K) ∙ append-assoc (reverse K) (k ∷ []) (l ∷ []))
-      (omega (arith, length-reverse K)) (each-reverse FrameFits K f) (g, (h, tt))
-      ∙ ap (λ (w : List ℤ). pos (suc (suc (length K))) ∷ (framesWords (reverse K) ++ (wordsOfFrame k ++ w ++ zeros above))) (append-nil (wordsOfFrame l))
+  free-above t e =
+      thread-parts t (reverse K) [] (frameWords + above) (ap reverse e ∙ sym (append-nil (reverse K)))
+      (omega (arith, length-reverse K)) (each-reverse FrameFits K f) tt
+      ∙ (λ i. pos (length (e i)) ∷ (framesWords (reverse K) ++ sym (replicate-append-replicate frameWords above (pos 0)) i))
 
-  -- both are written anew, and the count
-  two-pasted : (a b : Pool) → Around a b → (n m : ℕ) (M x y : List ℤ) (at₀ at₁ at₂ : ℕ)
-      → at₀ ≡ 1 + threadWords * length a → at₁ ≡ startOf (length a) (length K) → at₂ ≡ startOf (length a) (suc (length K))
-      → length M ≡ frameWords + frameWords → length x ≡ frameWords → length y ≡ frameWords
-      → pasted (pasted (set (within a b (pos n ∷ (framesWords (reverse K) ++ (M ++ zeros above)))) at₀ (pos m)) at₁ x) at₂ y
-      ≡ within a b (pos m ∷ (framesWords (reverse K) ++ (x ++ y ++ zeros above)))
-  two-pasted a b h n m M x y at₀ at₁ at₂ e₀ e₁ e₂ l₀ l₁ l₂ =
+  one-above : (t : Thread) (l : Frame) → frames t ≡ l ∷ K → FrameFits l
+      → wordsOfThread t ≡ pos (suc (length K)) ∷ (framesWords (reverse K) ++ (wordsOfFrame l ++ zeros above))
+  one-above t l e g =
+      thread-parts t (reverse K) (l ∷ []) above (ap reverse e ∙ reverse-cons l K)
+      (omega (arith, length-reverse K)) (each-reverse FrameFits K f) (g, tt)
+      ∙ (λ i. pos (length (e i)) ∷ (framesWords (reverse K) ++ (written-one wordsOfFrame l i ++ zeros above)))
+
+  -- the count is stored, and that room pasted over
+  top-pasted : (a b : Pool) → Around a b → (n m : ℕ) (x y : List ℤ) (at₀ at₁ : ℕ)
+      → at₀ ≡ 1 + threadWords * length a → at₁ ≡ startOf (length a) (length K) → length x ≡ frameWords → length y ≡ frameWords
+      → pasted (set (within a b (pos n ∷ (framesWords (reverse K) ++ (x ++ zeros above)))) at₀ (pos m)) at₁ y
+      ≡ within a b (pos m ∷ (framesWords (reverse K) ++ (y ++ zeros above)))
+  top-pasted a b h n m x y at₀ at₁ e₀ e₁ l₀ l₁ =
       let A : List ℤ = framesWords (reverse K) in
-      let R : List ℤ = pos m ∷ (A ++ (M ++ zeros above)) in
+      let R : List ℤ = pos m ∷ (A ++ (x ++ zeros above)) in
       let la : length A ≡ length K * frameWords = frames-length (reverse K) (each-reverse FrameFits K f) ∙ ap (λ (c : ℕ). c * frameWords) (length-reverse K) in
       let lr : length R ≡ threadWords = ap suc (simp (length-append, length-replicate) (omega arith)) in
-      let lxy : length (x ++ y) ≡ length M = simp length-append (omega arith) in
-      let lw : 1 + threadWords * length a + length R ≤ length (within a b R) = within-long a b R h in
-      ap (λ (w : List ℤ). pasted (pasted w at₁ x) at₂ y) (set-in a b (pos n) (pos m) (A ++ (M ++ zeros above)) at₀ h e₀)
-      ∙ paste-paste (within a b R) x y at₁ at₂ (omega arith) (omega arith)
-      ∙ paste-in a b R at₁ (1 + frameWords * length K) h (omega arith) (x ++ y) (omega arith)
-      ∙ ap (within a b) (paste-parts (pos m ∷ A) M (zeros above) (x ++ y) (1 + frameWords * length K) (omega arith) (sym lxy))
+      ap (λ (w : List ℤ). pasted w at₁ y) (set-in a b (pos n) (pos m) (A ++ (x ++ zeros above)) at₀ h e₀)
+      ∙ paste-in a b R at₁ (1 + frameWords * length K) h (omega arith) y (omega arith)
+      ∙ ap (within a b) (paste-parts (pos m ∷ A) x (zeros above) y (1 + frameWords * length K) (omega arith) (l₀ ∙ sym l₁))
 
-  two-edited : {a b : Pool} {t t′ : Thread} {d : List ℤ} {i : ℕ} → ThreadAt d i a t b → ThreadFits t′ → (n m : ℕ) (M x y : List ℤ) (at₀ at₁ at₂ : ℕ)
-      → at₀ ≡ 1 + threadWords * i → at₁ ≡ startOf i (length K) → at₂ ≡ startOf i (suc (length K))
-      → length M ≡ frameWords + frameWords → length x ≡ frameWords → length y ≡ frameWords
-      → wordsOfThread t ≡ pos n ∷ (framesWords (reverse K) ++ (M ++ zeros above))
-      → wordsOfThread t′ ≡ pos m ∷ (framesWords (reverse K) ++ (x ++ y ++ zeros above))
-      → ThreadAt (pasted (pasted (set d at₀ (pos m)) at₁ x) at₂ y) i a t′ b
-  two-edited {a} {b} {t} {t′} h g n m M x y at₀ at₁ at₂ e₀ e₁ e₂ l₀ l₁ l₂ w w′ =
+  top-edited : {a b : Pool} {t t′ : Thread} {d : List ℤ} {i : ℕ} → ThreadAt d i a t b → ThreadFits t′ → (n m : ℕ) (x y : List ℤ) (at₀ at₁ : ℕ)
+      → at₀ ≡ 1 + threadWords * i → at₁ ≡ startOf i (length K) → length x ≡ frameWords → length y ≡ frameWords
+      → wordsOfThread t ≡ pos n ∷ (framesWords (reverse K) ++ (x ++ zeros above))
+      → wordsOfThread t′ ≡ pos m ∷ (framesWords (reverse K) ++ (y ++ zeros above))
+      → ThreadAt (pasted (set d at₀ (pos m)) at₁ y) i a t′ b
+  top-edited {a} {b} {t} {t′} h g n m x y at₀ at₁ e₀ e₁ l₀ l₁ w w′ =
       let o : Around a b = around a b t (h .held .fits) in
       record {
         held = record {
           words =
-              ap (λ (v : List ℤ). pasted (pasted (set v at₀ (pos m)) at₁ x) at₂ y)
+              ap (λ (v : List ℤ). pasted (set v at₀ (pos m)) at₁ y)
               (h .held .words ∙ pool-within a b t o (within-fits a b t (h .held .fits)) ∙ ap (within a b) w)
-              ∙ two-pasted a b o n m M x y at₀ at₁ at₂ (omega (arith, h .place)) (omega (arith, h .place)) (omega (arith, h .place)) l₀ l₁ l₂
+              ∙ top-pasted a b o n m x y at₀ at₁ (omega (arith, h .place)) (omega (arith, h .place)) l₀ l₁
               ∙ ap (within a b) (sym w′)
               ∙ sym (pool-within a b t′ o g);
           fits = around-fits a b t′ o g;
@@ -187,33 +175,27 @@ module _ (K : List Frame) (f : Each FrameFits K) (few : suc (length K) < mostFra
         place = h .place;
       }
 
-two-long : (x y : List ℤ) → length x ≡ frameWords → length y ≡ frameWords → length (x ++ y) ≡ frameWords + frameWords
-two-long x y e f = simp length-append (omega arith)
+module _ {a b : Pool} {d : List ℤ} {i : ℕ} where
+  -- a call: the callee stands above
+  pub pushed : {t : Thread} → ThreadAt d i a t b → length (frames t) < mostFrames → (l : Frame) → FrameFits l
+      → (at₀ at₁ : ℕ) → at₀ ≡ 1 + threadWords * i → at₁ ≡ startOf i (length (frames t))
+      → ThreadAt (pasted (set d at₀ (pos (suc (length (frames t))))) at₁ (wordsOfFrame l)) i a (record { newest = l; older = frames t }) b
+  pushed {t} h few l g at₀ at₁ e₀ e₁ =
+      let f : Each FrameFits (frames t) = within-fits a b t (h .held .fits) .each in
+      let t′ : Thread = record { newest = l; older = frames t } in
+      top-edited (frames t) f few h (record { few = few; each = (g, f) }) (length (frames t)) (suc (length (frames t)))
+      (zeros frameWords) (wordsOfFrame l) at₀ at₁ e₀ e₁ refl (frame-length g)
+      (free-above (frames t) f few t refl) (one-above (frames t) f few t′ l refl g)
 
-module _ {a b : Pool} {K : List Frame} {d : List ℤ} {i : ℕ} {k : Frame} where
-  -- a call: the caller is written anew, and the callee above it
-  pub pushed : ThreadAt d i a (record { newest = k; older = K }) b → suc (length K) < mostFrames
-      → (k′ l : Frame) → FrameFits k′ → FrameFits l
-      → (at₀ at₁ at₂ : ℕ) → at₀ ≡ 1 + threadWords * i → at₁ ≡ startOf i (length K) → at₂ ≡ startOf i (suc (length K))
-      → ThreadAt (pasted (pasted (set d at₀ (pos (suc (suc (length K))))) at₁ (wordsOfFrame k′)) at₂ (wordsOfFrame l)) i a (record { newest = l; older = k′ ∷ K }) b
-  pushed h few k′ l f g at₀ at₁ at₂ e₀ e₁ e₂ =
-      let t : ThreadFits (record { newest = k; older = K }) = within-fits a b (record { newest = k; older = K }) (h .held .fits) in
-      two-edited K (t .each .1) few h (record { few = few; each = (g, (f, t .each .1)) }) (suc (length K)) (suc (suc (length K)))
-      (wordsOfFrame k ++ zeros frameWords) (wordsOfFrame k′) (wordsOfFrame l) at₀ at₁ at₂ e₀ e₁ e₂
-      (two-long (wordsOfFrame k) (zeros frameWords) (frame-length (t .each .0)) refl) (frame-length f) (frame-length g)
-      (single K (t .each .1) few k (t .each .0))
-      (double K (t .each .1) few k′ l f g)
-
-  -- a return: the caller is written anew, and the words above it are free
-  pub popped : {l : Frame} → ThreadAt d i a (record { newest = l; older = k ∷ K }) b
-      → (k′ : Frame) → FrameFits k′
-      → (at₀ at₁ at₂ : ℕ) → at₀ ≡ 1 + threadWords * i → at₁ ≡ startOf i (length K) → at₂ ≡ startOf i (suc (length K))
-      → ThreadAt (cleared (pasted (set d at₀ (pos (suc (length K)))) at₁ (wordsOfFrame k′)) at₂ frameWords) i a (record { newest = k′; older = K }) b
-  popped {l} h k′ f at₀ at₁ at₂ e₀ e₁ e₂ =
-      let t : ThreadFits (record { newest = l; older = k ∷ K }) = within-fits a b (record { newest = l; older = k ∷ K }) (h .held .fits) in
-      rw (cleared-pasted (pasted (set d at₀ (pos (suc (length K)))) at₁ (wordsOfFrame k′)) at₂ frameWords)
-      (two-edited K (t .each .1 .1) (t .few) h (record { few = omega (arith, t .few); each = (f, t .each .1 .1) }) (suc (suc (length K))) (suc (length K))
-      (wordsOfFrame k ++ wordsOfFrame l) (wordsOfFrame k′) (zeros frameWords) at₀ at₁ at₂ e₀ e₁ e₂
-      (two-long (wordsOfFrame k) (wordsOfFrame l) (frame-length (t .each .1 .0)) (frame-length (t .each .0))) (frame-length f) refl
-      (double K (t .each .1 .1) (t .few) k l (t .each .1 .0) (t .each .0))
-      (single K (t .each .1 .1) (t .few) k′ f))
+  -- a return: the newest frame's words are free
+  pub popped : {l m : Frame} {K : List Frame} → ThreadAt d i a (record { newest = l; older = m ∷ K }) b
+      → (at₀ at₁ : ℕ) → at₀ ≡ 1 + threadWords * i → at₁ ≡ startOf i (suc (length K))
+      → ThreadAt (cleared (set d at₀ (pos (suc (length K)))) at₁ frameWords) i a (record { newest = m; older = K }) b
+  popped {l} {m} {K} h at₀ at₁ e₀ e₁ =
+      let t : Thread = record { newest = l; older = m ∷ K } in
+      let t′ : Thread = record { newest = m; older = K } in
+      let f : ThreadFits t = within-fits a b t (h .held .fits) in
+      rw (cleared-pasted (set d at₀ (pos (suc (length K)))) at₁ frameWords)
+      (top-edited (m ∷ K) (f .each .1) (f .few) h (record { few = omega (arith, f .few); each = f .each .1 }) (suc (suc (length K))) (suc (length K))
+      (wordsOfFrame l) (zeros frameWords) at₀ at₁ e₀ e₁ (frame-length (f .each .0)) refl
+      (one-above (m ∷ K) (f .each .1) (f .few) t l refl (f .each .0)) (free-above (m ∷ K) (f .each .1) (f .few) t′ refl))

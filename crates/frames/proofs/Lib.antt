@@ -1,4 +1,3 @@
-pub mod Table
 pub mod Parts
 pub mod Places
 pub mod Edits
@@ -6,3 +5,6 @@ pub mod Threads
 pub mod Words
 pub mod Steps
 pub mod Pools
+pub mod Readers
+pub mod InPlace
+pub mod Stores

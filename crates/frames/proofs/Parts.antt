@@ -27,7 +27,7 @@ paste-parts pre mid post ws at e f =
     rw (take-at pre (mid ++ post) at e, behind pre mid post at (length ws) e f) (append-assoc pre ws post)
 
 -- a list as three parts
-parts : (d : List ℤ) (at n : ℕ) → d ≡ take at d ++ (take n (drop at d) ++ drop (at + n) d)
+pub parts : (d : List ℤ) (at n : ℕ) → d ≡ take at d ++ (take n (drop at d) ++ drop (at + n) d)
 parts d at n =
     sym
     (ap (λ (l : List ℤ). take at d ++ (take n (drop at d) ++ l)) (sym (drop-drop n at d))
@@ -79,10 +79,29 @@ paste-paste d xs ys at at′ e h =
     in
     rw (take-at (a ++ xs) r at′ f, g) (ap (λ (l : List ℤ). l ++ drop (at + length (xs ++ ys)) d) (append-assoc a xs ys))
 
+-- a paste over another
+pub paste-again : (d xs ys : List ℤ) (at : ℕ) → length xs ≡ length ys → at + length xs ≤ length d → pasted (pasted d at xs) at ys ≡ pasted d at ys
+unfolding pasted
+paste-again d xs ys at e h =
+    ap (λ (w : List ℤ). pasted w at ys) (append-assoc (take at d) xs (drop (at + length xs) d))
+    ∙ paste-parts (take at d) xs (drop (at + length xs) d) ys at (length-take-le at d (omega arith)) e
+    ∙ ap (λ (m : ℕ). take at d ++ (ys ++ drop (at + m) d)) e
+    ∙ sym (append-assoc (take at d) ys (drop (at + length ys) d))
+
 -- a paste over everything
 pub paste-all : (d ws : List ℤ) → length d ≡ length ws → pasted d 0 ws ≡ ws
 paste-all d ws e =
     ap (λ (l : List ℤ). pasted l 0 ws) (sym (append-nil d)) ∙ paste-parts [] d [] ws 0 refl e ∙ append-nil ws
+
+-- a store behind a part
+pub set-behind : (pre l : List ℤ) (at j : ℕ) (x : ℤ) → length pre ≡ at → set (pre ++ l) (at + j) x ≡ pre ++ set l j x
+set-behind pre l at j x e = rw (sym e) (go pre)
+  where
+    go : (p : List ℤ) → set (p ++ l) (length p + j) x ≡ p ++ set l j x
+    go [] = let z : 0 + j ≡ j = omega arith in rw z
+    go (y ∷ p) =
+        let s : suc (length p) + j ≡ suc (length p + j) = omega arith in
+        rw s (ap {B = List ℤ} (λ m. y ∷ m) (go p))
 
 -- a store, a clear and a move are pastes
 pub set-pasted : (d : List ℤ) (at : ℕ) (x : ℤ) → at < length d → set d at x ≡ pasted d at (x ∷ [])

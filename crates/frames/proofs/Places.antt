@@ -116,10 +116,6 @@ pool-within a b t h f =
     pool-parts a (t ∷ b) ((mostThreads - suc (length a + length b)) * threadWords) (omega (arith, h .few)) (h .before) (f, h .behind)
     ∙ ap (λ (l : List ℤ). front a b ++ l) (append-assoc (wordsOfThread t) (threadsWords b) _)
 
-pub within-long : (a b : Pool) (T : List ℤ) → Around a b → 1 + threadWords * length a + length T ≤ length (within a b T)
-unfolding within
-within-long a b T h = simp length-append (omega (arith, threads-length a (h .before)))
-
 -- a thread's first word in the pool: set, and read
 pub set-in : (a b : Pool) (x y : ℤ) (R : List ℤ) (at : ℕ) → Around a b → at ≡ 1 + threadWords * length a
     → set (within a b (x ∷ R)) at y ≡ within a b (y ∷ R)

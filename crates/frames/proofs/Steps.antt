@@ -13,12 +13,12 @@ use Rattle.model.specs.Pool.{Frame, Thread, Pool, mostFrames, mostThreads, fram
 use Rattle.model.proofs.Words.{FrameFits, ThreadFits, frame-length, thread-length}
 use Rattle.words.specs.Runs.{pasted, moved, cleared}
 use Rattle.frames.specs.declared.Frame as Code
-use Rattle.frames.specs.Held.{startOf, bitsAt, ThreadAt, FrameAt}
-use Rattle.frames.specs.Frame.{modelOf, Wrote, ReadAs}
-use Rattle.frames.specs.Edits.{threadsIn, framesIn, lone, WroteThread, FrameRead, NewestRead, Replaced, Pushed, Popped, Promoted, Added, Removed}
+use Rattle.frames.specs.Held.{startOf, bitsAt, ThreadAt}
+use Rattle.frames.specs.Frame.{modelOf, Wrote}
+use Rattle.frames.specs.Edits.{threadsIn, framesIn, lone, WroteThread, Pushed, Popped, Promoted, Added, Removed}
 use Rattle.frames.proofs.Parts.{zeros, paste-parts, paste-paste, paste-all, set-pasted, cleared-pasted}
 use Rattle.frames.proofs.Places.{Around, around, within-fits, within, pool-within, first-in, thread-parts, pool-parts}
-use Rattle.frames.proofs.Edits.{frame-replaced, frame-read, call-promoted, pushed, popped}
+use Rattle.frames.proofs.Edits.{frame-read, call-promoted, pushed, popped}
 use Rattle.frames.proofs.Threads.{added, removed}
 use Rattle.frames.proofs.Words.{promoted-at}
 
@@ -47,53 +47,27 @@ threads-counted {ws} {i} {a} {b} {t} h =
     let n : bitsAt ws 0 ≡ length (a ++ t ∷ b) = ap (λ (w : List ℤ). bitsAt w 0) (h .held .words) ∙ ap (ofZ w32) (pool-first (a ++ t ∷ b)) in
     omega (arith, length-append a (t ∷ b), h .held .fits .few)
 
--- the newest frame, and the one below it
-newest-at : (t : Thread) → FrameAt t (length (t .older)) [] (t .newest) (t .older)
-newest-at t = record { is = refl; place = refl }
-
 module _ (ws : List ℤ) (i : ℕ) where
-  pub frame-was-read : (j at : ℕ) (r : Code.Frame) → at ≡ startOf i j → ReadAs ws at r → FrameRead ws i j r
-  frame-was-read j at r e q a t b K₁ k K₂ h g s = q k s (frame-read h g at e)
-
-  pub newest-was-read : (n : ℕ) (r : Code.Frame) → n ≡ framesIn ws i → FrameRead ws i (n - 1) r → NewestRead ws i r
-  newest-was-read n r e q a t b h s =
-      let m : n - 1 ≡ length (t .older) = omega (arith, frames-counted h) in
-      subst⁻¹ (λ (j : ℕ). FrameRead ws i j r) (sym m) q a t b [] (t .newest) (t .older) h (newest-at t) s
-
-  pub was-replaced : (d : List ℤ) (n at : ℕ) (f : Code.Frame) → n ≡ framesIn ws i → at ≡ startOf i (n - 1) → Wrote ws at f d → Replaced ws i (modelOf f) d
-  was-replaced d n at f e p w a t b h =
-      let m : n - 1 ≡ length (t .older) = omega (arith, frames-counted h) in
-      let t′ : Thread = record { newest = modelOf f; older = t .older } in
-      subst⁻¹ (λ (l : List ℤ). ThreadAt l i a t′ b) (w .words)
-      (frame-replaced h (newest-at t) (newest-at t′) (w .fits) at (omega arith))
-
-  pub was-pushed : (d₁ d₂ d₃ : List ℤ) (n at₀ at₁ at₂ : ℕ) (k l : Code.Frame) → framesIn ws i < mostFrames → n ≡ framesIn ws i
-      → at₀ ≡ 1 + threadWords * i → d₁ ≡ set ws at₀ (pos (n + 1)) → at₁ ≡ startOf i (n - 1) → Wrote d₁ at₁ k d₂ → at₂ ≡ startOf i n → Wrote d₂ at₂ l d₃
-      → Pushed ws i (modelOf k) (modelOf l) d₃
-  was-pushed d₁ d₂ d₃ n at₀ at₁ at₂ k l few e p₀ w₀ p₁ w₁ p₂ w₂ a t b h =
+  pub was-pushed : (d₁ d₂ : List ℤ) (n at₀ at₁ : ℕ) (f : Code.Frame) → framesIn ws i < mostFrames → n ≡ framesIn ws i
+      → at₀ ≡ 1 + threadWords * i → d₁ ≡ set ws at₀ (pos (n + 1)) → at₁ ≡ startOf i n → Wrote d₁ at₁ f d₂ → Pushed ws i (modelOf f) d₂
+  was-pushed d₁ d₂ n at₀ at₁ f few e p₀ w₀ p₁ w₁ a t b h =
       let c : framesIn ws i ≡ suc (length (t .older)) = frames-counted h in
       let m : n + 1 ≡ suc (suc (length (t .older))) = omega arith in
-      let t′ : Thread = record { newest = modelOf l; older = modelOf k ∷ t .older } in
-      let q : d₃ ≡ pasted (pasted (set ws at₀ (pos (suc (suc (length (t .older)))))) at₁ (wordsOfFrame (modelOf k))) at₂ (wordsOfFrame (modelOf l)) =
-      w₂ .words ∙ ap (λ (x : List ℤ). pasted x at₂ (wordsOfFrame (modelOf l))) (w₁ .words)
-      ∙ ap (λ (x : List ℤ). pasted (pasted x at₁ (wordsOfFrame (modelOf k))) at₂ (wordsOfFrame (modelOf l))) (w₀ ∙ ap (λ (x : ℕ). set ws at₀ (pos x)) m)
+      let t′ : Thread = record { newest = modelOf f; older = t .newest ∷ t .older } in
+      let q : d₂ ≡ pasted (set ws at₀ (pos (suc (suc (length (t .older)))))) at₁ (wordsOfFrame (modelOf f)) =
+      w₁ .words ∙ ap (λ (x : List ℤ). pasted x at₁ (wordsOfFrame (modelOf f))) (w₀ ∙ ap (λ (x : ℕ). set ws at₀ (pos x)) m)
       in
-      subst⁻¹ (λ (x : List ℤ). ThreadAt x i a t′ b) q
-      (pushed h (omega arith) (modelOf k) (modelOf l) (w₁ .fits) (w₂ .fits) at₀ at₁ at₂ p₀ (omega arith) (omega arith))
+      subst⁻¹ (λ (x : List ℤ). ThreadAt x i a t′ b) q (pushed h (omega arith) (modelOf f) (w₁ .fits) at₀ at₁ p₀ (omega arith))
 
-  pub was-popped : (d₁ d₂ d₃ : List ℤ) (n at₀ at₁ at₂ : ℕ) (k : Code.Frame) → n ≡ framesIn ws i
-      → at₀ ≡ 1 + threadWords * i → d₁ ≡ set ws at₀ (pos (n - 1)) → at₁ ≡ startOf i (n - 2) → Wrote d₁ at₁ k d₂ → at₂ ≡ startOf i (n - 1) → d₃ ≡ cleared d₂ at₂ frameWords
-      → Popped ws i (modelOf k) d₃
-  was-popped d₁ d₂ d₃ n at₀ at₁ at₂ k e p₀ w₀ p₁ w₁ p₂ w₂ a l m K b h =
+  pub was-popped : (d₁ d₂ : List ℤ) (n at₀ at₁ : ℕ) → n ≡ framesIn ws i
+      → at₀ ≡ 1 + threadWords * i → d₁ ≡ set ws at₀ (pos (n - 1)) → at₁ ≡ startOf i (n - 1) → d₂ ≡ cleared d₁ at₁ frameWords → Popped ws i d₂
+  was-popped d₁ d₂ n at₀ at₁ e p₀ w₀ p₁ w₁ a l m K b h =
       let c : framesIn ws i ≡ suc (suc (length K)) = frames-counted h in
       let r : n - 1 ≡ suc (length K) = omega arith in
-      let t′ : Thread = record { newest = modelOf k; older = K } in
-      let q : d₃ ≡ cleared (pasted (set ws at₀ (pos (suc (length K)))) at₁ (wordsOfFrame (modelOf k))) at₂ frameWords =
-      w₂ ∙ ap (λ (x : List ℤ). cleared x at₂ frameWords) (w₁ .words)
-      ∙ ap (λ (x : List ℤ). cleared (pasted x at₁ (wordsOfFrame (modelOf k))) at₂ frameWords) (w₀ ∙ ap (λ (x : ℕ). set ws at₀ (pos x)) r)
+      let q : d₂ ≡ cleared (set ws at₀ (pos (suc (length K)))) at₁ frameWords =
+      w₁ ∙ ap (λ (x : List ℤ). cleared x at₁ frameWords) (w₀ ∙ ap (λ (x : ℕ). set ws at₀ (pos x)) r)
       in
-      subst⁻¹ (λ (x : List ℤ). ThreadAt x i a t′ b) q
-      (popped h (modelOf k) (w₁ .fits) at₀ at₁ at₂ p₀ (omega arith) (omega arith))
+      subst⁻¹ (λ (x : List ℤ). ThreadAt x i a (record { newest = m; older = K }) b) q (popped h at₀ at₁ p₀ (omega arith))
 
   pub was-promoted : (j : ℕ) (d : List ℤ) (n at : ℕ) → at ≡ startOf i j + 5 → at < length ws → n ≡ bitsAt ws at % 256 → d ≡ set ws at (pos (n + 1)) → Promoted ws i j d
   was-promoted j d n at p l e w a t b K₁ k K₂ t′ h g s g′ =

@@ -1,5 +1,5 @@
 -- A frame's words from the code's frame, and back; the frame starts.
-use Prim.Native.Nat.{ℕ, zero, suc, _+_, _*_, _-_, _/_, _%_, _≤_, _<_}
+use Prim.Native.Nat.{ℕ, zero, suc, _+_, _*_, _/_, _%_, _≤_, _<_}
 use mathlib.Core.Path.{_≡_, refl, sym, ap, subst⁻¹, _∙_}
 use mathlib.Core.Bool.{Bool}
 use mathlib.Core.List.{List, [], _∷_, _++_, map, append-assoc}
@@ -8,8 +8,8 @@ use borrow.Author.Tests.{lt-ltb, le-ltb}
 use lib.Dec.{T, eqb, eqb→eq, lit≤}
 use native.Mathlib.Nat.{add-zero}
 use lib.IntN.{ℤ, pos}
-use lib.ListN.{length, getD, take, drop, length-take, length-drop, length-map, take-append-drop}
-use lib.Seq.{take-nil, getD-take, getD-drop, drop-drop, length-take-le}
+use lib.ListN.{length, getD, take, drop, length-take, length-map, take-append-drop}
+use lib.Seq.{take-nil, getD-take, getD-drop, drop-drop}
 use mir.Syntax.{w32, w64}
 use mir.Val.{Fits, SFits, toZ, ofZ}
 use mir.Facts.{toZ-pos, toZ-ofZ}
@@ -19,9 +19,10 @@ use Rattle.model.proofs.Words.{FrameFits, length-pad}
 use Rattle.words.specs.Runs.{pasted}
 use Rattle.frames.specs.Held.{startOf, bitsAt, bytesFrom}
 use Rattle.frames.specs.declared.Frame as Code
-use Rattle.frames.specs.Frame.{modelOf, headOf, callWord, countWord, Wrote, ReadAs}
-use Rattle.frames.proofs.Table.{at, every}
-use Rattle.frames.proofs.Parts.{paste-paste, paste-all, middle}
+use Rattle.frames.specs.Frame.{modelOf, headOf, callWord, countWord, Wrote, Small}
+use Rattle.frames.specs.InPlace.{frameAt}
+use Rattle.words.proofs.Table.{at, every}
+use Rattle.frames.proofs.Parts.{paste-paste, middle}
 
 -- the table of frame starts
 abbrev pub right : ℕ → ℕ → Bool
@@ -113,7 +114,7 @@ pub code-fits : (f : Code.Frame) → length (f .calls) ≡ 4 → length (f .valu
 unfolding modelOf
 code-fits f n m = record { calls = simp length-take (omega arith); values = m }
 
-head-length : (k : Frame) → FrameFits k → length (headOf k) ≡ 10
+pub head-length : (k : Frame) → FrameFits k → length (headOf k) ≡ 10
 unfolding headOf
 head-length k h = let n : length (pad 4 (pos 0) (map pos (k .calls))) ≡ 4 = length-pad 4 (pos 0) (map pos (k .calls)) (rw length-map (h .calls)) in rw n
 
@@ -135,7 +136,7 @@ wrote ws h d₁ d₂ at f n m l e₀ e₁ e₂ =
 
 -- the word at a place of a frame's words
 module _ (ws : List ℤ) (at : ℕ) (k : Frame) (e : take 26 (drop at ws) ≡ wordsOfFrame k) where
-  word-at : (j : ℕ) → j < 26 → bitsAt ws (at + j) ≡ ofZ w32 (getD (wordsOfFrame k) j (pos 0))
+  pub word-at : (j : ℕ) → j < 26 → bitsAt ws (at + j) ≡ ofZ w32 (getD (wordsOfFrame k) j (pos 0))
   word-at j h =
       ap (ofZ w32)
       (sym (getD-drop at ws j (pos 0)) ∙ sym (getD-take 26 (drop at ws) j (pos 0) h) ∙ ap (λ (l : List ℤ). getD l j (pos 0)) e)
@@ -182,31 +183,29 @@ calls-back (x ∷ y ∷ z ∷ w ∷ []) v̄ h g b₀ b₁ b₂ b₃ e₀ e₁ e�
     λ i. p i ∷ q i ∷ r i ∷ s i ∷ []
 calls-back (x ∷ y ∷ z ∷ w ∷ u ∷ ρ) v̄ h g b₀ b₁ b₂ b₃ e₀ e₁ e₂ e₃ = absurd (omega arith)
 
-pub read-made : (ws : List ℤ) (at : ℕ) (r : Code.Frame)
-    → r .function ≡ bitsAt ws at % 256 → r .block ≡ bitsAt ws (at + 1) % 256 → r .done ≡ bitsAt ws (at + 2) % 256 → r .bound ≡ bitsAt ws (at + 3) % 65536
-    → r .opened ≡ bitsAt ws (at + 4) % 256 → r .promoted ≡ bitsAt ws (at + 5) % 256 → r .calls ≡ bytesFrom ws (at + 6) → r .values ≡ take 16 (drop (at + 10) ws)
-    → ReadAs ws at r
-unfolding modelOf wordsOfFrame
-read-made ws at r e₀ e₁ e₂ e₃ e₄ e₅ e₆ e₇ k s e =
+-- the frame that words say is the one whose words they are
+pub frame-said : (ws : List ℤ) (at : ℕ) (k : Frame) → Small k → take 26 (drop at ws) ≡ wordsOfFrame k → frameAt ws at ≡ k
+unfolding frameAt wordsOfFrame
+frame-said ws at k s e =
     let n : length (k .calls) ≤ 4 = s .fits .calls in
-    let p₀ : r .function ≡ k .function = omega (arith, word-at ws at k e 0 (lit≤ tt), ap (bitsAt ws) (add-zero at), s .function) in
-    let p₁ : r .block ≡ k .block = omega (arith, word-at ws at k e 1 (lit≤ tt), s .block) in
-    let p₂ : r .done ≡ k .done = omega (arith, word-at ws at k e 2 (lit≤ tt), s .done) in
-    let p₃ : r .bound ≡ k .bound = omega (arith, word-at ws at k e 3 (lit≤ tt), s .bound) in
-    let p₄ : r .opened ≡ length (k .calls) = omega (arith, word-at ws at k e 4 (lit≤ tt)) in
-    let p₅ : r .promoted ≡ k .promoted = omega (arith, word-at ws at k e 5 (lit≤ tt), s .promoted) in
+    let p₀ : bitsAt ws at % 256 ≡ k .function = omega (arith, word-at ws at k e 0 (lit≤ tt), ap (bitsAt ws) (add-zero at), s .function) in
+    let p₁ : bitsAt ws (at + 1) % 256 ≡ k .block = omega (arith, word-at ws at k e 1 (lit≤ tt), s .block) in
+    let p₂ : bitsAt ws (at + 2) % 256 ≡ k .done = omega (arith, word-at ws at k e 2 (lit≤ tt), s .done) in
+    let p₃ : bitsAt ws (at + 3) % 65536 ≡ k .bound = omega (arith, word-at ws at k e 3 (lit≤ tt), s .bound) in
+    let p₄ : bitsAt ws (at + 4) % 256 ≡ length (k .calls) = omega (arith, word-at ws at k e 4 (lit≤ tt)) in
+    let p₅ : bitsAt ws (at + 5) % 256 ≡ k .promoted = omega (arith, word-at ws at k e 5 (lit≤ tt), s .promoted) in
     let q₁ : bitsAt ws (at + 6 + 1) ≡ bitsAt ws (at + 7) = ap (bitsAt ws) (omega arith) in
     let q₂ : bitsAt ws (at + 6 + 2) ≡ bitsAt ws (at + 8) = ap (bitsAt ws) (omega arith) in
     let q₃ : bitsAt ws (at + 6 + 3) ≡ bitsAt ws (at + 9) = ap (bitsAt ws) (omega arith) in
-    let p₆ : take (r .opened) (r .calls) ≡ k .calls =
-    rw (p₄, e₆)
+    let p₆ : take (bitsAt ws (at + 4) % 256) (bytesFrom ws (at + 6)) ≡ k .calls =
+    rw p₄
     (calls-back (k .calls) (k .values) n (s .calls) _ _ _ _
     (ap (λ (m : ℕ). m % 256) (word-at ws at k e 6 (lit≤ tt)))
     (ap (λ (m : ℕ). m % 256) (q₁ ∙ word-at ws at k e 7 (lit≤ tt)))
     (ap (λ (m : ℕ). m % 256) (q₂ ∙ word-at ws at k e 8 (lit≤ tt)))
     (ap (λ (m : ℕ). m % 256) (q₃ ∙ word-at ws at k e 9 (lit≤ tt))))
     in
-    let p₇ : r .values ≡ k .values = e₇ ∙ values-at ws at k e (s .fits) in
+    let p₇ : take 16 (drop (at + 10) ws) ≡ k .values = values-at ws at k e (s .fits) in
     λ i.
     record {
       function = p₀ i;
@@ -221,10 +220,3 @@ read-made ws at r e₀ e₁ e₂ e₃ e₄ e₅ e₆ e₇ k s e =
 -- the bits of a word that the code has at hand
 pub bits-of : (x : ℤ) (r : ℕ) → SFits w32 x → r ≡ ofZ w32 (toZ w32 (ofZ w32 x)) → r ≡ ofZ w32 x
 bits-of x r f e = e ∙ ap (ofZ w32) (toZ-ofZ f)
-
--- sixteen words that were copied over as many
-pub copied : (d ws l : List ℤ) (at : ℕ) → length d ≡ 16 → at + 16 ≤ length ws → l ≡ pasted d 0 (take (at + 16 - at) (drop at ws)) → l ≡ take 16 (drop at ws)
-copied d ws l at m h e =
-    let q : at + 16 - at ≡ 16 = omega arith in
-    let k : length (take 16 (drop at ws)) ≡ 16 = length-take-le 16 (drop at ws) (simp length-drop (omega arith)) in
-    e ∙ ap (λ (j : ℕ). pasted d 0 (take j (drop at ws))) q ∙ paste-all d (take 16 (drop at ws)) (m ∙ sym k)

@@ -8,7 +8,7 @@ use Rattle.model.specs.Frames.{deque}
 use Rattle.model.proofs.Words.{ThreadFits}
 use Rattle.words.specs.Runs.{pasted}
 use Rattle.frames.specs.declared.Frame as Code
-use Rattle.frames.specs.Frame.{modelOf, Small}
+use Rattle.frames.specs.Frame.{modelOf}
 use Rattle.frames.specs.Held.{bitsAt, ThreadAt, FrameAt}
 
 -- the number of threads, and of a thread's frames, that words say: always 1 to 8
@@ -26,28 +26,15 @@ pub record WroteThread (ws : List ℤ) (at : ℕ) (f : Code.Frame) (ws′ : List
   pub words : ws′ ≡ pasted ws at (wordsOfThread (lone (modelOf f)))
   pub fits : ThreadFits (lone (modelOf f))
 
--- frame j of thread i was read, and the newest frame of thread i
-abbrev pub FrameRead : List ℤ → ℕ → ℕ → Code.Frame → Type 0
-FrameRead ws i j r =
-    (a : Pool) (t : Thread) (b : Pool) (K₁ : List Frame) (k : Frame) (K₂ : List Frame) → ThreadAt ws i a t b → FrameAt t j K₁ k K₂ → Small k → modelOf r ≡ k
+-- thread i has k above its newest frame
+abbrev pub Pushed : List ℤ → ℕ → Frame → List ℤ → Type 0
+Pushed ws i k ws′ =
+    (a : Pool) (t : Thread) (b : Pool) → ThreadAt ws i a t b → ThreadAt ws′ i a (record { newest = k; older = t .newest ∷ t .older }) b
 
-abbrev pub NewestRead : List ℤ → ℕ → Code.Frame → Type 0
-NewestRead ws i r = (a : Pool) (t : Thread) (b : Pool) → ThreadAt ws i a t b → Small (t .newest) → modelOf r ≡ t .newest
-
--- thread i has another newest frame
-abbrev pub Replaced : List ℤ → ℕ → Frame → List ℤ → Type 0
-Replaced ws i k ws′ =
-    (a : Pool) (t : Thread) (b : Pool) → ThreadAt ws i a t b → ThreadAt ws′ i a (record { newest = k; older = t .older }) b
-
--- thread i has another newest frame, and l above it
-abbrev pub Pushed : List ℤ → ℕ → Frame → Frame → List ℤ → Type 0
-Pushed ws i k l ws′ =
-    (a : Pool) (t : Thread) (b : Pool) → ThreadAt ws i a t b → ThreadAt ws′ i a (record { newest = l; older = k ∷ t .older }) b
-
--- thread i has lost its newest frame, and k stands for the one below it
-abbrev pub Popped : List ℤ → ℕ → Frame → List ℤ → Type 0
-Popped ws i k ws′ =
-    (a : Pool) (l m : Frame) (K : List Frame) (b : Pool) → ThreadAt ws i a (record { newest = l; older = m ∷ K }) b → ThreadAt ws′ i a (record { newest = k; older = K }) b
+-- thread i has lost its newest frame
+abbrev pub Popped : List ℤ → ℕ → List ℤ → Type 0
+Popped ws i ws′ =
+    (a : Pool) (l m : Frame) (K : List Frame) (b : Pool) → ThreadAt ws i a (record { newest = l; older = m ∷ K }) b → ThreadAt ws′ i a (record { newest = m; older = K }) b
 
 -- frame j of thread i has one more promoted call
 abbrev pub Promoted : List ℤ → ℕ → ℕ → List ℤ → Type 0

@@ -5,7 +5,7 @@ use mathlib.Core.Bool.{cond}
 use mathlib.Core.List.{List, _∷_, map}
 use lib.Dec.{ltb}
 use lib.IntN.{ℤ, pos}
-use lib.ListN.{length, take, drop}
+use lib.ListN.{length, take}
 use Rattle.model.specs.Lists.{Each, pad}
 use Rattle.model.proofs.Words.{FrameFits}
 use Rattle.words.specs.Runs.{pasted}
@@ -52,7 +52,3 @@ pub record Small (k : Pool.Frame) : Type 0 where
   pub promoted : k .promoted < 256
   pub calls : Each (λ π. π < 256) (k .calls)
   pub fits : FrameFits k
-
--- a frame was read: any small frame whose words stand there
-abbrev pub ReadAs : List ℤ → ℕ → Frame → Type 0
-ReadAs ws at r = (k : Pool.Frame) → Small k → take Pool.frameWords (drop at ws) ≡ Pool.wordsOfFrame k → modelOf r ≡ k

@@ -1,13 +1,15 @@
-// The pool's words, worked in place: frames by value, and the operations on threads and frames.
+// The pool's words, worked in place: new frames by value, frames where they stand, and the operations on threads and frames.
 ghost use mathlib.Core.List.{[]};
+ghost use mathlib.Core.Option.{some};
 ghost use mathlib.Core.Path.{_≡_};
 ghost use Prim.Native.Nat.{_+_, _*_, _<_, _≤_, _%_};
 ghost use lib.IntN.{pos};
-ghost use lib.ListN.{length, take, drop, set};
+ghost use lib.ListN.{length, getD, getElem?, set};
 ghost use Rattle.model.specs.Pool.{begin, mostCalls, mostFrames, mostThreads, temporaries, frameWords, threadWords, poolWords, wordsOf, started};
-ghost use Rattle.frames.specs.Held.{startOf, bitsAt, bytesFrom};
-ghost use Rattle.frames.specs.Edits.{threadsIn, framesIn, FrameRead, NewestRead, WroteThread, Replaced, Pushed, Popped, Promoted, Added, Removed};
-ghost use Rattle.frames.specs.Frame.{modelOf, headOf, callWord, countWord, Wrote, ReadAs};
+ghost use Rattle.frames.specs.Held.{startOf, bitsAt};
+ghost use Rattle.frames.specs.Edits.{threadsIn, framesIn, WroteThread, Pushed, Popped, Promoted, Added, Removed};
+ghost use Rattle.frames.specs.InPlace.{frameAt, newestAt, Jumped, Advanced, Bound, Opened, Closed};
+ghost use Rattle.frames.specs.Frame.{modelOf, headOf, callWord, countWord, Wrote};
 
 // The pool's own record: its limits, and the empty frame.
 pub struct Pool;
@@ -49,7 +51,7 @@ impl Pool {
     }
 }
 
-// A frame by value. The first `opened` of `calls` are the open spawn calls, oldest first.
+// A new frame, by value. The first `opened` of `calls` are the open spawn calls, oldest first.
 pub struct Frame {
     pub function: u8,
     pub block: u8,
@@ -158,6 +160,66 @@ fn half_at(ws: &[i32], at: usize) -> u16
     (bits_at(ws, at) % 65536) as u16
 }
 
+// The frame at a place, read in place: its numbers, its spawn calls, its values.
+pub fn function(ws: &[i32], at: usize) -> u8
+    requires { ⌜ at + frameWords ≤ length (now ws) ⌝ }
+    ensures { λ r. ⌜ r ≡ frameAt (now (ws .entry)) at .function ⌝ }
+{
+    byte_at(ws, at)
+}
+
+pub fn block(ws: &[i32], at: usize) -> u8
+    requires { ⌜ at + frameWords ≤ length (now ws) ⌝ }
+    ensures { λ r. ⌜ r ≡ frameAt (now (ws .entry)) at .block ⌝ }
+{
+    byte_at(ws, at + 1)
+}
+
+pub fn done(ws: &[i32], at: usize) -> u8
+    requires { ⌜ at + frameWords ≤ length (now ws) ⌝ }
+    ensures { λ r. ⌜ r ≡ frameAt (now (ws .entry)) at .done ⌝ }
+{
+    byte_at(ws, at + 2)
+}
+
+pub fn bound(ws: &[i32], at: usize) -> u16
+    requires { ⌜ at + frameWords ≤ length (now ws) ⌝ }
+    ensures { λ r. ⌜ r ≡ frameAt (now (ws .entry)) at .bound ⌝ }
+{
+    half_at(ws, at + 3)
+}
+
+// How many calls are open: 4 at most.
+pub fn opened(ws: &[i32], at: usize) -> u8
+    requires { ⌜ at + frameWords ≤ length (now ws) ⌝ }
+    ensures { λ r. ⌜ r ≡ length (frameAt (now (ws .entry)) at .calls) ⌝ }
+{
+    let n = byte_at(ws, at + 4);
+    if n < 4 { n } else { 4 }
+}
+
+pub fn promoted(ws: &[i32], at: usize) -> u8
+    requires { ⌜ at + frameWords ≤ length (now ws) ⌝ }
+    ensures { λ r. ⌜ r ≡ frameAt (now (ws .entry)) at .promoted ⌝ }
+{
+    byte_at(ws, at + Pool::PROMOTED_AT)
+}
+
+// Spawn call n, which is open.
+pub fn call(ws: &[i32], at: usize, n: u8) -> u8
+    requires { ⌜ (at + frameWords ≤ length (now ws)) × (n < length (frameAt (now ws) at .calls)) ⌝ }
+    ensures { λ r. ⌜ getElem? (frameAt (now (ws .entry)) at .calls) n ≡ some r ⌝ }
+{
+    byte_at(ws, at + Pool::CALLS_AT + (n as usize))
+}
+
+pub fn value(ws: &[i32], at: usize, x: u8) -> i32
+    requires { ⌜ (at + frameWords ≤ length (now ws)) × (x < temporaries) ⌝ }
+    ensures { λ r. ⌜ r ≡ getD (frameAt (now (ws .entry)) at .values) x (pos 0) ⌝ }
+{
+    ws[at + Pool::VALUES_AT + (x as usize)]
+}
+
 // A spawn call's word: 0 where it is not open.
 fn call_word(opened: u8, k: u8, call: u8) -> i32
     ensures { λ r. ⌜ r ≡ callWord opened k call ⌝ }
@@ -208,46 +270,51 @@ pub fn write_frame(ws: &mut [i32], at: usize, f: Frame)
     words::copy(ws, at + Pool::VALUES_AT, &values);
 }
 
-// The four spawn calls, and the sixteen values, from a place on.
-fn calls_from(ws: &[i32], at: usize) -> [u8; Pool::CALLS]
-    requires { ⌜ at + mostCalls ≤ length (now ws) ⌝ }
-    ensures { λ r. ⌜ r ≡ bytesFrom (now (ws .entry)) at ⌝ }
-{
-    [
-        byte_at(ws, at),
-        byte_at(ws, at + 1),
-        byte_at(ws, at + 2),
-        byte_at(ws, at + 3),
-    ]
-}
-
-fn values_from(ws: &[i32], at: usize) -> [i32; Pool::TEMPORARIES]
-    requires { ⌜ at + temporaries ≤ length (now ws) ⌝ }
-    ensures { λ r. ⌜ r ≡ take temporaries (drop at (now (ws .entry))) ⌝ }
-{
-    let end = at + Pool::TEMPORARIES;
-    let mut values = [0i32; Pool::TEMPORARIES];
-    words::copy(&mut values, 0, &ws[at..end]);
-    values
-}
-
-// The frame whose words stand at a place.
-pub fn read_frame(ws: &[i32], at: usize) -> Frame
+// The frame at a place, changed in place: it is at statement n of block b.
+pub fn jump(ws: &mut [i32], at: usize, b: u8, n: u8)
     requires { ⌜ at + frameWords ≤ length (now ws) ⌝ }
-    ensures { λ r. ⌜ ReadAs (now (ws .entry)) at r ⌝ }
+    ensures { λ _. ⌜ Jumped (now (ws .entry)) at b n (now (ws .exit)) ⌝ }
 {
-    let calls = calls_from(ws, at + Pool::CALLS_AT);
-    let values = values_from(ws, at + Pool::VALUES_AT);
-    Frame {
-        function: byte_at(ws, at),
-        block: byte_at(ws, at + 1),
-        done: byte_at(ws, at + 2),
-        bound: half_at(ws, at + 3),
-        opened: byte_at(ws, at + 4),
-        promoted: byte_at(ws, at + 5),
-        calls,
-        values,
-    }
+    ws[at + 1] = b as i32;
+    ws[at + 2] = n as i32;
+}
+
+// It is at its next statement.
+pub fn advance(ws: &mut [i32], at: usize)
+    requires { ⌜ at + frameWords ≤ length (now ws) ⌝ }
+    ensures { λ _. ⌜ Advanced (now (ws .entry)) at (now (ws .exit)) ⌝ }
+{
+    let n = byte_at(ws, at + 2) as usize;
+    ws[at + 2] = (n + 1) as i32;
+}
+
+// A temporary is bound.
+pub fn bind(ws: &mut [i32], at: usize, x: u8, v: i32)
+    requires { ⌜ (at + frameWords ≤ length (now ws)) × (x < temporaries) ⌝ }
+    ensures { λ _. ⌜ Bound (now (ws .entry)) at x v (now (ws .exit)) ⌝ }
+{
+    let bound = half_at(ws, at + 3);
+    ws[at + 3] = (bound | (1 << x)) as i32;
+    ws[at + Pool::VALUES_AT + (x as usize)] = v;
+}
+
+// One more call is open, behind n.
+pub fn open_call(ws: &mut [i32], at: usize, n: u8, call: u8)
+    requires { ⌜ (at + frameWords ≤ length (now ws)) × (n < mostCalls) ⌝ }
+    ensures { λ _. ⌜ Opened (now (ws .entry)) at n call (now (ws .exit)) ⌝ }
+{
+    ws[at + 4] = (n + 1) as i32;
+    ws[at + Pool::CALLS_AT + (n as usize)] = call as i32;
+}
+
+// The last call is closed, and n are left, of which so many are promoted.
+pub fn close_call(ws: &mut [i32], at: usize, n: u8, promoted: u8)
+    requires { ⌜ (at + frameWords ≤ length (now ws)) × (n < mostCalls) ⌝ }
+    ensures { λ _. ⌜ Closed (now (ws .entry)) at n promoted (now (ws .exit)) ⌝ }
+{
+    ws[at + 4] = n as i32;
+    ws[at + Pool::PROMOTED_AT] = promoted as i32;
+    ws[at + Pool::CALLS_AT + (n as usize)] = 0;
 }
 
 // Where a thread begins: the word that counts its frames.
@@ -255,7 +322,7 @@ pub fn thread_start(thread: usize) -> usize
     requires { ⌜ thread < mostThreads ⌝ }
     ensures { λ r. ⌜ r ≡ 1 + threadWords * thread ⌝ }
 {
-    frame_start(thread, 0) - 1
+    1 + Pool::THREAD_WORDS * thread
 }
 
 // How many threads there are, and how many frames a thread has. Words that hold no pool count as some number of 1 to 8.
@@ -273,27 +340,21 @@ pub fn frame_count(ws: &[i32], thread: usize) -> usize
     (bits_at(ws, thread_start(thread)) as usize + (Pool::FRAMES - 1)) % Pool::FRAMES + 1
 }
 
+// Where a thread's newest frame begins.
+pub fn newest_start(ws: &[i32], thread: usize) -> usize
+    requires { ⌜ (length (now ws) ≡ poolWords) × (thread < mostThreads) ⌝ }
+    ensures is { λ r. ⌜ r ≡ newestAt (now (ws .entry)) thread ⌝ }
+    ensures within { λ r. ⌜ r + frameWords ≤ poolWords ⌝ }
+{
+    frame_start(thread, frame_count(ws, thread) - 1)
+}
+
 // A count, put into a word.
 pub fn set_count(ws: &mut [i32], at: usize, n: usize)
     requires { ⌜ (at < length (now ws)) × (n ≤ 256) ⌝ }
     ensures { λ _. ⌜ now (ws .exit) ≡ set (now (ws .entry)) at (pos n) ⌝ }
 {
     ws[at] = n as i32;
-}
-
-// Frame by frame: any frame of a thread, and its newest.
-pub fn frame_at(ws: &[i32], thread: usize, frame: usize) -> Frame
-    requires { ⌜ (length (now ws) ≡ poolWords) × (thread < mostThreads) × (frame < mostFrames) ⌝ }
-    ensures { λ r. ⌜ FrameRead (now (ws .entry)) thread frame r ⌝ }
-{
-    read_frame(ws, frame_start(thread, frame))
-}
-
-pub fn newest(ws: &[i32], thread: usize) -> Frame
-    requires { ⌜ (length (now ws) ≡ poolWords) × (thread < mostThreads) ⌝ }
-    ensures { λ r. ⌜ NewestRead (now (ws .entry)) thread r ⌝ }
-{
-    frame_at(ws, thread, frame_count(ws, thread) - 1)
 }
 
 // A thread with one frame, put into ws from at on.
@@ -310,35 +371,24 @@ pub fn write_thread(ws: &mut [i32], at: usize, f: Frame)
     );
 }
 
-// The newest frame is another.
-pub fn replace_newest(ws: &mut [i32], thread: usize, f: Frame)
-    requires { ⌜ (length (now ws) ≡ poolWords) × (thread < mostThreads) ⌝ }
-    ensures { λ _. ⌜ Replaced (now (ws .entry)) thread (modelOf f) (now (ws .exit)) ⌝ }
-{
-    let newest = frame_count(ws, thread) - 1;
-    write_frame(ws, frame_start(thread, newest), f);
-}
-
-// The newest frame is another, and the callee's stands above it.
-pub fn push_frame(ws: &mut [i32], thread: usize, caller: Frame, callee: Frame)
-    requires { ⌜ (length (now ws) ≡ poolWords) × (thread < mostThreads) × (framesIn (now ws) thread < mostFrames) ⌝ }
-    ensures { λ _. ⌜ Pushed (now (ws .entry)) thread (modelOf caller) (modelOf callee) (now (ws .exit)) ⌝ }
+// A frame stands above the newest, which begins at k.
+pub fn push_frame(ws: &mut [i32], thread: usize, k: usize, f: Frame)
+    requires { ⌜ (length (now ws) ≡ poolWords) × (thread < mostThreads) × (framesIn (now ws) thread < mostFrames) × (k ≡ newestAt (now ws) thread) ⌝ }
+    ensures { λ _. ⌜ Pushed (now (ws .entry)) thread (modelOf f) (now (ws .exit)) ⌝ }
 {
     let n = frame_count(ws, thread);
     set_count(ws, thread_start(thread), n + 1);
-    write_frame(ws, frame_start(thread, n - 1), caller);
-    write_frame(ws, frame_start(thread, n), callee);
+    write_frame(ws, k + Pool::FRAME_WORDS, f);
 }
 
-// The newest frame goes, and the caller below it is another.
-pub fn pop_frame(ws: &mut [i32], thread: usize, caller: Frame)
-    requires { ⌜ (length (now ws) ≡ poolWords) × (thread < mostThreads) × (1 < framesIn (now ws) thread) ⌝ }
-    ensures { λ _. ⌜ Popped (now (ws .entry)) thread (modelOf caller) (now (ws .exit)) ⌝ }
+// The newest frame, which begins at k, goes.
+pub fn pop_frame(ws: &mut [i32], thread: usize, k: usize)
+    requires { ⌜ (length (now ws) ≡ poolWords) × (thread < mostThreads) × (1 < framesIn (now ws) thread) × (k ≡ newestAt (now ws) thread) ⌝ }
+    ensures { λ _. ⌜ Popped (now (ws .entry)) thread (now (ws .exit)) ⌝ }
 {
     let n = frame_count(ws, thread);
     set_count(ws, thread_start(thread), n - 1);
-    write_frame(ws, frame_start(thread, n - 2), caller);
-    words::clear(ws, frame_start(thread, n - 1), Pool::FRAME_WORDS);
+    words::clear(ws, k, Pool::FRAME_WORDS);
 }
 
 // One more call of a frame is promoted.

@@ -5,6 +5,7 @@ use mathlib.Core.Bool.{Bool, true, false, _&&_, _||_}
 use mathlib.Core.List.{List}
 use native.Mathlib.Omega.{arith}
 use native.Mathlib.Numerals.{add-one}
+use lib.Dec.{eqb}
 use lib.IntN.{ℤ, pos, negsuc, natAbs}
 use lib.Signed.{ltZ}
 use lib.ListN.{length, getD, drop, drop-of-length-le}
@@ -38,15 +39,22 @@ not-below w f t = rw (toZ-ofZ f) (go w f (rw (toZ-ofZ f) at t))
     go (pos n) f t = record { is = refl; small = omega (arith, f .sfits) }
     go (negsuc n) f t = true-false true refl t
 
--- a word that is 0
-pub zero-word : (w : ℤ) → SFits w32 w → ofZ w32 w ≡ 0 → isZero w ≡ true
-unfolding isZero
-zero-word (pos n) f e = eq-eqb n 0 e
-zero-word (negsuc n) f e = absurd (let h : n < 2 ^ 31 = f .sfits in omega arith)
+-- the test of a word for 0
+not-zero : (n : ℕ) → SFits w32 (negsuc n) → ofZ w32 (negsuc n) ≡ 0 → ⊥
+not-zero n f e = let h : n < 2 ^ 31 = f .sfits in omega arith
 
-pub other-word : (w : ℤ) → (ofZ w32 w ≡ 0 → ⊥) → isZero w ≡ false
+pub zero-test : (w : ℤ) → SFits w32 w → eqb (ofZ w32 w) 0 ≡ isZero w
 unfolding isZero
-other-word w h = fails (same w (pos 0)) (λ e. h (ap (ofZ w32) (same-true w (pos 0) e)))
+zero-test (pos n) f = refl
+zero-test (negsuc n) f = ne-eqb (ofZ w32 (negsuc n)) 0 (not-zero n f)
+
+and-assoc : (a b c : Bool) → (a && (b && c)) ≡ ((a && b) && c)
+and-assoc true b c = refl
+and-assoc false b c = refl
+
+and-true : (a : Bool) → (a && true) ≡ a
+and-true true = refl
+and-true false = refl
 
 -- all of a list, from word i on
 module _ (f : ℤ → Bool) (ws : List ℤ) (i : ℕ) (h : all f ws ≡ all f (drop i ws)) where
@@ -64,23 +72,26 @@ module _ (f : ℤ → Bool) (ws : List ℤ) (i : ℕ) (h : all f ws ≡ all f (d
   unfolding all
   all-ends l = sym (h ∙ rw (drop-of-length-le ws l) refl)
 
--- values from temporary i on
-module _ (Γ : ℕ) (ws : List ℤ) (i : ℕ) (h : blank Γ 0 ws ≡ blank Γ i (drop i ws)) where
-  blank-step : i < length ws → blank Γ 0 ws ≡ ((has Γ i || isZero (getD ws i (pos 0))) && blank Γ (i + 1) (drop (i + 1) ws))
+-- all of a list, and of the values: what is known of those before i, and the rest
+module _ (ws : List ℤ) (i : ℕ) (fine : Bool) where
+  pub zeros-turn : all isZero ws ≡ (fine && all isZero (drop i ws)) → i < length ws → SFits w32 (getD ws i (pos 0))
+      → all isZero ws ≡ ((fine && eqb (ofZ w32 (getD ws i (pos 0))) 0) && all isZero (drop (i + 1) ws))
+  unfolding all
+  zeros-turn h l f = h ∙ rw (add-one, drop-cons ws i (pos 0), zero-test (getD ws i (pos 0)) f) (and-assoc fine _ _)
+
+  pub zeros-end : all isZero ws ≡ (fine && all isZero (drop i ws)) → length ws ≤ i → fine ≡ all isZero ws
+  unfolding all
+  zeros-end h l = sym (h ∙ rw (drop-of-length-le ws l) (and-true fine))
+
+  blank-step : (Γ : ℕ) → i < length ws → blank Γ i (drop i ws) ≡ ((has Γ i || isZero (getD ws i (pos 0))) && blank Γ (i + 1) (drop (i + 1) ws))
   unfolding blank isZero
-  blank-step l = h ∙ rw (drop-cons ws i (pos 0), add-one)
+  blank-step Γ l = rw (drop-cons ws i (pos 0), add-one)
 
-  pub blank-bound : i < length ws → Γ / 2 ^ i % 2 ≡ 1 → blank Γ 0 ws ≡ blank Γ (i + 1) (drop (i + 1) ws)
+  pub blank-turn : (Γ : ℕ) → blank Γ 0 ws ≡ (fine && blank Γ i (drop i ws)) → i < length ws → SFits w32 (getD ws i (pos 0))
+      → blank Γ 0 ws ≡ ((fine && (eqb (Γ / 2 ^ i % 2) 1 || eqb (ofZ w32 (getD ws i (pos 0))) 0)) && blank Γ (i + 1) (drop (i + 1) ws))
   unfolding has
-  blank-bound l e = blank-step l ∙ rw (eq-eqb (Γ / 2 ^ i % 2) 1 e) refl
+  blank-turn Γ h l f = h ∙ rw (blank-step Γ l, zero-test (getD ws i (pos 0)) f) (and-assoc fine _ _)
 
-  pub blank-zero : i < length ws → isZero (getD ws i (pos 0)) ≡ true → blank Γ 0 ws ≡ blank Γ (i + 1) (drop (i + 1) ws)
-  blank-zero l e = blank-step l ∙ rw (right-or (has Γ i) (isZero (getD ws i (pos 0))) e) refl
-
-  pub blank-fails : i < length ws → (Γ / 2 ^ i % 2 ≡ 1 → ⊥) → isZero (getD ws i (pos 0)) ≡ false → false ≡ blank Γ 0 ws
-  unfolding has
-  blank-fails l e z = sym (blank-step l ∙ rw (ne-eqb (Γ / 2 ^ i % 2) 1 e, z) refl)
-
-  pub blank-ends : length ws ≤ i → true ≡ blank Γ 0 ws
+  pub blank-end : (Γ : ℕ) → blank Γ 0 ws ≡ (fine && blank Γ i (drop i ws)) → length ws ≤ i → fine ≡ blank Γ 0 ws
   unfolding blank
-  blank-ends l = sym (h ∙ rw (drop-of-length-le ws l) refl)
+  blank-end Γ h l = sym (h ∙ rw (drop-of-length-le ws l) (and-true fine))

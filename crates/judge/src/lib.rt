@@ -1,11 +1,12 @@
 // Which words are a pool of a table (13): one look at each word, no copy, and the first fault ends it.
 ghost use mathlib.Core.Path.{_≡_};
-ghost use Prim.Native.Nat.{_<_, _≤_};
+ghost use Prim.Native.Nat.{_*_, _<_, _≤_};
 ghost use lib.IntN.{pos};
 ghost use lib.ListN.{length, getD};
 ghost use Rattle.model.specs.Lists.{all};
-ghost use Rattle.model.specs.Pool.{blank};
+ghost use Rattle.model.specs.Pool.{blank, temporaries, mostFrames, mostThreads, frameWords, threadWords};
 ghost use Rattle.judge.specs.Judged.{isZero, IsNumber, Counts, JudgesPlace, JudgesCalls, follows, JudgesFrame, JudgesFrames, JudgesThread, JudgesTrees, JudgesPool};
+use frames::Pool;
 use places::Place;
 
 // How many children a thread has, or that its words are no thread.
@@ -23,35 +24,31 @@ fn number(ws: &[i32], i: usize) -> usize
     if w < 0 { 2147483648 } else { w as usize }
 }
 
-// Are they all 0?
+// Are they all 0? No early end: many are looked at together.
 fn zeros(ws: &[i32]) -> bool
     ensures { λ r. ⌜ r ≡ all isZero (now (ws .entry)) ⌝ }
 {
+    let mut fine = true;
     let mut i = 0;
     while i < ws.len() {
-        if ws[i] != 0 {
-            return false;
-        }
+        fine = fine & (ws[i] == 0);
         i += 1;
     }
-    true
+    fine
 }
 
 // Are the values of the unbound temporaries 0?
 fn values(bound: usize, ws: &[i32]) -> bool
-    requires { ⌜ length (now ws) ≡ 16 ⌝ }
+    requires { ⌜ length (now ws) ≡ temporaries ⌝ }
     ensures { λ r. ⌜ r ≡ blank bound 0 (now (ws .entry)) ⌝ }
 {
+    let mut fine = true;
     let mut i = 0;
-    while i < 16 {
-        if (bound >> i) % 2 != 1 {
-            if ws[i] != 0 {
-                return false;
-            }
-        }
+    while i < Pool::TEMPORARIES {
+        fine = fine & (((bound >> i) % 2 == 1) | (ws[i] == 0));
         i += 1;
     }
-    true
+    fine
 }
 
 // How many statements the block at an offset has: behind the parameters, two bytes of scope and the nesting.
@@ -96,17 +93,17 @@ fn calls(places: &[u16; 656], f: usize, ws: &[i32]) -> bool
     true
 }
 
-// Are the 26 words a frame of the table?
+// Are the words a frame of the table?
 fn frame(s: &[u8], places: &[u16; 656], w: &[i32]) -> bool
-    requires { ⌜ length (now w) ≡ 26 ⌝ }
+    requires { ⌜ length (now w) ≡ frameWords ⌝ }
     ensures { λ r. ⌜ JudgesFrame (now (s .entry)) (now (places .entry)) (now (w .entry)) r ⌝ }
 {
     let f = number(w, 0);
     let opened = number(w, 4);
-    if 4 < opened {
+    if Pool::CALLS < opened {
         return false;
     }
-    if opened < number(w, 5) {
+    if opened < number(w, Pool::PROMOTED_AT) {
         return false;
     }
     let bound = number(w, 3);
@@ -116,27 +113,27 @@ fn frame(s: &[u8], places: &[u16; 656], w: &[i32]) -> bool
     if !place(s, places, f, number(w, 1), number(w, 2)) {
         return false;
     }
-    let k = 6 + opened;
-    if !calls(places, f, &w[6..k]) {
+    let k = Pool::CALLS_AT + opened;
+    if !calls(places, f, &w[Pool::CALLS_AT..k]) {
         return false;
     }
-    if !zeros(&w[k..10]) {
+    if !zeros(&w[k..Pool::VALUES_AT]) {
         return false;
     }
-    values(bound, &w[10..26])
+    values(bound, &w[Pool::VALUES_AT..Pool::FRAME_WORDS])
 }
 
 // Has an older frame no statements done, and a frame behind a promoted call promoted ones only?
 fn follow(w: &[i32], newest: bool, free: bool) -> bool
-    requires { ⌜ length (now w) ≡ 26 ⌝ }
+    requires { ⌜ length (now w) ≡ frameWords ⌝ }
     ensures { λ r. ⌜ r ≡ follows newest free (now (w .entry)) ⌝ }
 {
-    (newest | (number(w, 2) == 0)) & (free | (number(w, 5) == number(w, 4)))
+    (newest | (number(w, 2) == 0)) & (free | (number(w, Pool::PROMOTED_AT) == number(w, 4)))
 }
 
-// The first n of eight frames, the newest, which is the last, first. `free`: no newer frame has a promoted call.
+// The first n frames of a thread, the newest, which is the last, first. `free`: no newer frame has a promoted call.
 fn frames(s: &[u8], places: &[u16; 656], ws: &[i32], n: usize) -> Children
-    requires { ⌜ (length (now ws) ≡ 208) × (n ≤ 8) ⌝ }
+    requires { ⌜ (length (now ws) ≡ mostFrames * frameWords) × (n ≤ mostFrames) ⌝ }
     ensures { λ r. ⌜ JudgesFrames (now (s .entry)) (now (places .entry)) (now (ws .entry)) n r ⌝ }
 {
     let mut left = n;
@@ -145,8 +142,8 @@ fn frames(s: &[u8], places: &[u16; 656], ws: &[i32], n: usize) -> Children
     let mut sum: usize = 0;
     while 0 < left {
         left -= 1;
-        let at = 26 * left;
-        let end = at + 26;
+        let at = Pool::FRAME_WORDS * left;
+        let end = at + Pool::FRAME_WORDS;
         let w = &ws[at..end];
         if !frame(s, places, w) {
             return Children::Bad;
@@ -154,7 +151,7 @@ fn frames(s: &[u8], places: &[u16; 656], ws: &[i32], n: usize) -> Children
         if !follow(w, newest, free) {
             return Children::Bad;
         }
-        let promoted = number(w, 5);
+        let promoted = number(w, Pool::PROMOTED_AT);
         newest = false;
         free = free & (promoted == 0);
         sum += promoted;
@@ -162,28 +159,28 @@ fn frames(s: &[u8], places: &[u16; 656], ws: &[i32], n: usize) -> Children
     Children::Are(sum)
 }
 
-// Are the 209 words a thread of the table?
+// Are the words a thread of the table?
 fn thread(s: &[u8], places: &[u16; 656], t: &[i32]) -> Children
-    requires { ⌜ length (now t) ≡ 209 ⌝ }
+    requires { ⌜ length (now t) ≡ threadWords ⌝ }
     ensures { λ r. ⌜ JudgesThread (now (s .entry)) (now (places .entry)) (now (t .entry)) r ⌝ }
 {
     let n = number(t, 0);
     if n == 0 {
         return Children::Bad;
     }
-    if 8 < n {
+    if Pool::FRAMES < n {
         return Children::Bad;
     }
-    let k = 1 + 26 * n;
-    if !zeros(&t[k..209]) {
+    let k = 1 + Pool::FRAME_WORDS * n;
+    if !zeros(&t[k..Pool::THREAD_WORDS]) {
         return Children::Bad;
     }
-    frames(s, places, &t[1..209], n)
+    frames(s, places, &t[1..Pool::THREAD_WORDS], n)
 }
 
-// The first n of eight threads: are they one tree?
+// The first n threads of a pool: are they one tree?
 fn trees(s: &[u8], places: &[u16; 656], ws: &[i32], n: usize) -> bool
-    requires { ⌜ (length (now ws) ≡ 1672) × (n ≤ 8) ⌝ }
+    requires { ⌜ (length (now ws) ≡ mostThreads * threadWords) × (n ≤ mostThreads) ⌝ }
     ensures { λ r. ⌜ JudgesTrees (now (s .entry)) (now (places .entry)) (now (ws .entry)) n r ⌝ }
 {
     let mut i = 0;
@@ -192,8 +189,8 @@ fn trees(s: &[u8], places: &[u16; 656], ws: &[i32], n: usize) -> bool
         if demands < 1 {
             return false;
         }
-        let at = 209 * i;
-        let end = at + 209;
+        let at = Pool::THREAD_WORDS * i;
+        let end = at + Pool::THREAD_WORDS;
         let m = match thread(s, places, &ws[at..end]) {
             Children::Are(m) => m,
             Children::Bad => return false,
@@ -208,16 +205,16 @@ fn trees(s: &[u8], places: &[u16; 656], ws: &[i32], n: usize) -> bool
 pub fn is_pool(s: &[u8], places: &[u16; 656], ws: &[i32]) -> bool
     ensures { λ r. ⌜ JudgesPool (now (s .entry)) (now (places .entry)) (now (ws .entry)) r ⌝ }
 {
-    if ws.len() != 1673 {
+    if ws.len() != Pool::WORDS {
         return false;
     }
     let n = number(ws, 0);
-    if 8 < n {
+    if Pool::THREADS < n {
         return false;
     }
-    let k = 1 + 209 * n;
-    if !zeros(&ws[k..1673]) {
+    let k = 1 + Pool::THREAD_WORDS * n;
+    if !zeros(&ws[k..Pool::WORDS]) {
         return false;
     }
-    trees(s, places, &ws[1..1673], n)
+    trees(s, places, &ws[1..Pool::WORDS], n)
 }

@@ -1,4 +1,5 @@
 // A list of choices, put one after the other up to the first refusal: here as pairs of numbers, a kind and a thread each.
+use frames::Pool;
 use steps::Made;
 use table::Reading;
 ghost use mathlib.Core.Path.{_≡_};
@@ -41,7 +42,7 @@ pub fn admit(table: &[u8], places: &mut [u16; 656], pool: &[i32]) -> Admitted
         Reading::Byte(place) => return refuse(Scheduled::Unread(place)),
         Reading::Fine => {}
     }
-    if pool.len() != 1673 {
+    if pool.len() != Pool::WORDS {
         return refuse(Scheduled::Stopped(0, 12));
     }
     if !judge::is_pool(table, places, pool) {

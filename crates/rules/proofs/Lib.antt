@@ -1,2 +1,3 @@
 pub mod Heads
 pub mod Steps
+pub mod Endings

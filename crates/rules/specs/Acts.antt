@@ -1,113 +1,196 @@
--- What the code's acts stand for, and the contracts of the rules: the program that the places belong to comes in only there.
-use Prim.Native.Nat.{ℕ, _+_, _<_}
+-- What the code's acts stand for, and the contracts of the rules: the program that the places belong to comes in only there. The
+-- frame m is the one that stands in the words; the values that an act passes on are the first of a buffer.
+use Prim.Native.Nat.{ℕ, _+_, _-_, _<_, _≤_}
 use mathlib.Core.Path.{_≡_}
-use mathlib.Core.Bool.{true, cond}
-use mathlib.Core.Option.{Option}
+use mathlib.Core.Bool.{Bool, cond}
+use mathlib.Core.Option.{Option, none, some}
 use mathlib.Core.List.{List, [], _∷_, _++_}
 use lib.Dec.{eqb}
 use lib.IntN.{ℤ, pos}
-use lib.ListN.{getElem?}
+use lib.ListN.{length, take, getElem?}
+use Rattle.model.specs.Numbers as No
 use Rattle.model.specs.Lists.{Each}
 use Rattle.model.specs.Limits.{InStatement}
 use Rattle.model.specs.Values.{same}
 use Rattle.model.specs.Syntax.{Block, Program}
-use Rattle.model.specs.Read as Read
-use Rattle.model.specs.Read.{Parsed}
-use Rattle.model.specs.Pool as Pool
-use Rattle.model.specs.Pool.{temporaries}
-use Rattle.model.specs.Frames as Frames
+use Rattle.model.specs.Pool.{Frame, temporaries, mostCalls, begin}
+use Rattle.model.specs.Frames.{goTo, bind, bindAll, deque, callee, enter}
 use Rattle.model.specs.Rules as Rules
 use Rattle.places.specs.Places.{Places}
-use Rattle.frames.specs.declared.Frame.{Frame}
-use Rattle.frames.specs.Frame.{modelOf}
-use Rattle.eval.specs.declared.Values.{Values}
-use Rattle.eval.specs.Given.{optional, valuesOf}
-use Rattle.eval.specs.Bytes.{byteAt, past, argumentsAt, expressionAt, expressionEnd, statementAt, transferAt}
+use Rattle.bytes.specs.Bytes.{byteAt, past}
+use Rattle.eval.specs.Given.{optional}
+use Rattle.eval.specs.Code.{most, countAt, argumentsAt, expressionAt, expressionEnd, statementAt, transferAt}
 use Rattle.eval.proofs.Decoding.{Codes}
-use Rattle.rules.specs.declared.Entered.{Entered}
-use Rattle.rules.specs.declared.ToPromote.{ToPromote}
 use Rattle.rules.specs.declared.Acted.{Acted}
+use Rattle.rules.specs.declared.Ended.{Ended}
+use Rattle.rules.specs.declared.Ended.the-variants.{Gives, Runs}
 use Rattle.rules.specs.declared.Does.{Does}
-use Rattle.rules.specs.declared.Does.the-variants.{Refuse, Stay, Push, Pop, Join}
+use Rattle.rules.specs.declared.Does.the-variants.{Refuse, Bind, Enter, Open, Close, Push, Pop, Join}
 
--- a frame, or none
-abbrev pub frameOf : Entered → Option Pool.Frame
-frameOf e = optional (e .ok) (modelOf (e .frame))
+-- an act with no value and no parameters
+abbrev pub acting : Does → ℕ → ℕ → Acted
+acting d b n = record { does = d; block = b; count = n; value = pos 0; parameters = 0 }
 
--- the act that a frame does
-abbrev pub actBy : Does → Acted → Rules.Act
-actBy (Refuse n) a = Rules.Act.refuse n
-actBy (Stay rule) a = Rules.Act.stay rule (modelOf (a .frame))
-actBy Push a = Rules.Act.push (modelOf (a .frame)) (modelOf (a .callee))
-actBy Pop a = Rules.Act.pop (valuesOf (a .values))
-actBy (Join c) a = Rules.Act.join (modelOf (a .frame)) c
+-- the values that an act passes on
+abbrev pub passed : Acted → List ℤ → List ℤ
+passed a out = take (a .count) out
 
-abbrev pub actOf : Acted → Rules.Act
-actOf a = actBy (a .does) a
+-- a frame at the head of the act's block, with the values for the parameters that stand there
+abbrev pub arrived : List ℕ → Acted → List ℤ → Frame → Frame
+arrived s a out m = bindAll (goTo m (a .block) 0) (argumentsAt s (a .parameters)) (passed a out)
 
--- entering a block whose place is at; entering block b; a callee's first frame; a spawned child's
-abbrev pub Entering : List ℕ → ℕ → Frame → ℕ → Values → Entered → Type 0
-Entering s at k b v r = (B : Block) (end : ℕ) → Read.block s at ≡ Parsed.ok B end → frameOf r ≡ Frames.entering (modelOf k) b (valuesOf v) B
+-- a frame with its last call closed, and so many promoted
+abbrev pub closed : Frame → ℕ → Frame
+closed m promoted = deque m (take (length (m .calls) - 1) (m .calls)) promoted
 
-abbrev pub Enters : List ℕ → List ℕ → Frame → ℕ → Values → Entered → Type 0
-Enters s places k b v r = (P : Program) → Places s P places → frameOf r ≡ Frames.enter P (modelOf k) b (valuesOf v)
+-- the act, of the frame m
+abbrev pub actBy : Does → List ℕ → Frame → Acted → List ℤ → Rules.Act
+actBy (Refuse n) s m a out = Rules.Act.refuse n
+actBy (Bind x) s m a out = Rules.Act.stay No.stmt (goTo (bind m x (a .value)) (m .block) (m .done + 1))
+actBy (Enter rule) s m a out = Rules.Act.stay rule (arrived s a out m)
+actBy (Open π) s m a out = Rules.Act.stay No.spork (goTo (deque m (m .calls ++ (π ∷ [])) (m .promoted)) (a .block) 0)
+actBy Close s m a out = Rules.Act.stay No.unpr (goTo (closed m (m .promoted)) (a .block) 0)
+actBy (Push g) s m a out = Rules.Act.push (goTo m (a .block) 0) (begin g (passed a out))
+actBy Pop s m a out = Rules.Act.pop (passed a out)
+actBy (Join c) s m a out = Rules.Act.join (closed m (m .promoted - 1)) c
 
-abbrev pub Begins : List ℕ → List ℕ → ℕ → Values → Entered → Type 0
-Begins s places g v r = (P : Program) → Places s P places → frameOf r ≡ Frames.callee P g (valuesOf v)
+abbrev pub actOf : List ℕ → Frame → Acted → List ℤ → Rules.Act
+actOf s m a out = actBy (a .does) s m a out
 
-abbrev pub Spawns : List ℕ → List ℕ → Frame → ℕ → Entered → Type 0
-Spawns s places k π r = (P : Program) → Places s P places → frameOf r ≡ Rules.child P (modelOf k) π
+-- the parameters at an offset are temporaries, so many
+pub record Parameters (s : List ℕ) (at n : ℕ) : Type 0 where
+  pub each : Each (λ x. x < temporaries) (argumentsAt s at)
+  pub count : countAt s at ≡ n
 
--- the frame's oldest unpromoted call, and the frame with it promoted
-pub record Promotes (k : Frame) (r : ToPromote) : Type 0 where
-  pub call : optional (r .ok) (r .call) ≡ getElem? (modelOf k .calls) (modelOf k .promoted)
-  pub frame : r .ok ≡ true → modelOf (r .frame) ≡ Frames.deque (modelOf k) (modelOf k .calls) (modelOf k .promoted + 1)
+-- what holds besides, so that the act can be done in the words
+abbrev pub soundBy : Does → List ℕ → Frame → Acted → Type 0
+soundBy (Refuse n) s m a = Unit {0}
+soundBy (Bind x) s m a = (x < temporaries) × (m .done < 255)
+soundBy (Enter rule) s m a = Parameters s (a .parameters) (a .count)
+soundBy (Open π) s m a = length (m .calls) < mostCalls
+soundBy Close s m a = 0 < length (m .calls)
+soundBy (Push g) s m a = a .count ≤ most
+soundBy Pop s m a = a .count ≤ most
+soundBy (Join c) s m a = (0 < length (m .calls)) × (0 < m .promoted)
 
--- one more open call, where there is room
-abbrev pub Opens : Frame → ℕ → Frame → Type 0
-Opens k π r = k .opened < 4 → modelOf r ≡ Frames.deque (modelOf k) (modelOf k .calls ++ (π ∷ [])) (modelOf k .promoted)
+-- the code's act r, with the buffer, is the act t of the frame m
+pub record Is (s : List ℕ) (m : Frame) (out : List ℤ) (r : Acted) (t : Rules.Act) : Type 0 where
+  pub act : actOf s m r out ≡ t
+  pub sound : soundBy (r .does) s m r
 
--- the rules, with what they read in place
+-- block b of function f is entered with n values: the code answers what it was given to do, with the place of the parameters, or
+-- the block is not there or takes another number
+pub record Arrives (s : List ℕ) (P : Program) (f b n : ℕ) (r : Acted) : Type 0 where
+  pub block : r .block ≡ b
+  pub count : r .count ≡ n
+  pub parameters : Parameters s (r .parameters) n
+  pub is : (m : Frame) (v̄ : List ℤ) → m .function ≡ f → length v̄ ≡ n →
+      enter P m b v̄ ≡ some (bindAll (goTo m b 0) (argumentsAt s (r .parameters)) v̄)
+
+pub data Entering (s : List ℕ) (P : Program) (f b n : ℕ) (does : Does) (r : Acted) : Type 0 where
+  arrives : r .does ≡ does → Arrives s P f b n r → Entering s P f b n does r
+  jams : r .does ≡ Refuse No.stuck → ((m : Frame) (v̄ : List ℤ) → m .function ≡ f → length v̄ ≡ n → enter P m b v̄ ≡ none) →
+      Entering s P f b n does r
+
+abbrev pub Enters : List ℕ → List ℕ → ℕ → ℕ → ℕ → Does → Acted → Type 0
+Enters s places f b n does r = (P : Program) → Places s P places → Entering s P f b n does r
+
+-- a number of values, of which a buffer has no more than 8
+pub record Few (n r : ℕ) : Type 0 where
+  pub within : r ≤ most
+  pub same : (v̄ : List ℤ) → length v̄ ≡ most → take r v̄ ≡ take n v̄
+
+-- function g is there and takes n values
+abbrev pub Takes : List ℕ → List ℕ → ℕ → ℕ → Bool → Type 0
+Takes s places g n r =
+    (P : Program) → Places s P places → (v̄ : List ℤ) → length v̄ ≡ n → callee P g v̄ ≡ optional r (begin g v̄)
+
+-- a spawned child's first frame, where the act is a call
+abbrev pub childBy : Does → Acted → List ℤ → Option Frame
+childBy (Refuse n) a out = none
+childBy (Bind x) a out = none
+childBy (Enter rule) a out = none
+childBy (Open π) a out = none
+childBy Close a out = none
+childBy (Push g) a out = some (begin g (passed a out))
+childBy Pop a out = none
+childBy (Join c) a out = none
+
+pub record Spawned (P : Program) (m : Frame) (π : ℕ) (out : List ℤ) (r : Acted) : Type 0 where
+  pub child : childBy (r .does) r out ≡ Rules.child P m π
+  pub few : r .count ≤ most
+
+abbrev pub Spawns : List ℕ → List ℕ → Frame → ℕ → List ℤ → Acted → Type 0
+Spawns s places m π out r = (P : Program) → Places s P places → Spawned P m π out r
+
+-- the rules, with what they read in place. Those that pass no values on leave the buffer alone
 abbrev pub Stmt : List ℕ → Frame → ℕ → Acted → Type 0
-Stmt s k at r = byteAt s at < temporaries → actOf r ≡ Rules.stmt (modelOf k) (statementAt s at)
+Stmt s m at r =
+    byteAt s at < temporaries → m .done < 255 → (out : List ℤ) →
+    Is s m out r (Rules.stmt m (statementAt s at))
 
-abbrev pub Goto : List ℕ → List ℕ → Frame → ℕ → Acted → Type 0
-Goto s places k at r =
-    (P : Program) → Places s P places → actOf r ≡ Rules.goto P (modelOf k) (byteAt s at) (argumentsAt s (past s at 1))
+abbrev pub Goto : List ℕ → List ℕ → Frame → ℕ → List ℤ → Acted → Type 0
+Goto s places m at out r =
+    (P : Program) → Places s P places → Is s m out r (Rules.goto P m (byteAt s at) (argumentsAt s (past at 1)))
 
-abbrev pub Branch : List ℕ → List ℕ → Frame → ℕ → ℕ → ℤ → Acted → Type 0
-Branch s places k b c v r = (P : Program) → Places s P places → actOf r ≡ Rules.branch P (modelOf k) b c (same v (pos 0))
+abbrev pub Branch : List ℕ → List ℕ → ℕ → ℕ → ℕ → ℤ → Acted → Type 0
+Branch s places f b c v r =
+    (P : Program) → Places s P places → (m : Frame) → m .function ≡ f → (out : List ℤ) → Is s m out r (Rules.branch P m b c (same v (pos 0)))
 
 abbrev pub If : List ℕ → List ℕ → Frame → ℕ → Acted → Type 0
-If s places k at r =
-    (P : Program) → Places s P places →
-    actOf r ≡ Rules.if P (modelOf k) (expressionAt s at) (byteAt s (expressionEnd s at)) (byteAt s (past s (expressionEnd s at) 1))
+If s places m at r =
+    (P : Program) → Places s P places → (out : List ℤ) →
+    Is s m out r (Rules.if P m (expressionAt s at) (byteAt s (expressionEnd s at)) (byteAt s (past (expressionEnd s at) 1)))
 
-abbrev pub Call : List ℕ → List ℕ → Frame → ℕ → ℕ → Acted → Type 0
-Call s places k at b r =
-    (P : Program) → Places s P places → actOf r ≡ Rules.call P (modelOf k) (byteAt s at) (argumentsAt s (past s at 1)) b
+abbrev pub Call : List ℕ → List ℕ → Frame → ℕ → ℕ → List ℤ → Acted → Type 0
+Call s places m at b out r =
+    (P : Program) → Places s P places → Is s m out r (Rules.call P m (byteAt s at) (argumentsAt s (past at 1)) b)
+
+abbrev pub Return : List ℕ → Frame → ℕ → List ℤ → Acted → Type 0
+Return s m at out r = Is s m out r (Rules.return m (argumentsAt s at))
 
 abbrev pub Spork : List ℕ → List ℕ → Frame → ℕ → ℕ → Acted → Type 0
-Spork s places k b π r = (P : Program) → Places s P places → actOf r ≡ Rules.spork P (modelOf k) b π
+Spork s places m b π r =
+    (P : Program) → Places s P places → (out : List ℤ) → Is s m out r (Rules.spork P m b π)
 
 abbrev pub Spoin : List ℕ → List ℕ → Frame → ℕ → ℕ → Acted → Type 0
-Spoin s places k b c r = (P : Program) → Places s P places → actOf r ≡ Rules.spoin P (modelOf k) b c
+Spoin s places m b c r =
+    (P : Program) → Places s P places → (out : List ℤ) → Is s m out r (Rules.spoin P m b c)
 
-abbrev pub Transfer : List ℕ → List ℕ → Frame → ℕ → Acted → Type 0
-Transfer s places k at r = (P : Program) → Places s P places → actOf r ≡ Rules.transfer P (modelOf k) (transferAt s at)
+abbrev pub Transfer : List ℕ → List ℕ → Frame → ℕ → List ℤ → Acted → Type 0
+Transfer s places m at out r =
+    (P : Program) → Places s P places → Is s m out r (Rules.transfer P m (transferAt s at))
 
 -- spork and spoin, by their kind
 abbrev pub Ends : List ℕ → List ℕ → Frame → ℕ → ℕ → ℕ → Acted → Type 0
-Ends s places k kind b c r =
-    (P : Program) → Places s P places →
-    actOf r ≡ cond (eqb kind 4) (Rules.spork P (modelOf k) b c) (Rules.spoin P (modelOf k) b c)
+Ends s places m kind b c r =
+    (P : Program) → Places s P places → (out : List ℤ) →
+    Is s m out r (cond (eqb kind 4) (Rules.spork P m b c) (Rules.spoin P m b c))
 
 -- what comes next in a block whose number of statements stands at an offset
-abbrev pub Coming : List ℕ → List ℕ → Frame → ℕ → Acted → Type 0
-Coming s places k at r =
+abbrev pub Coming : List ℕ → List ℕ → Frame → ℕ → List ℤ → Acted → Type 0
+Coming s places m at out r =
     (P : Program) → Places s P places → (B : Block) → Codes s at B → Each InStatement (B .code) →
-    actOf r ≡ Rules.coming P (modelOf k) B (getElem? (B .code) (modelOf k .done))
+    Is s m out r (Rules.coming P m B (getElem? (B .code) (m .done)))
 
 -- the act of a frame
-abbrev pub Acts : List ℕ → List ℕ → Frame → Acted → Type 0
-Acts s places k r = (P : Program) → Places s P places → actOf r ≡ Rules.act P (modelOf k)
+abbrev pub Acts : List ℕ → List ℕ → Frame → List ℤ → Acted → Type 0
+Acts s places m out r = (P : Program) → Places s P places → Is s m out r (Rules.act P m)
+
+-- the values that a frame returns, in the buffer, of which there are no more than 8; or none
+abbrev pub givenBy : Ended → List ℤ → Option (List ℤ)
+givenBy (Gives n) out = some (take n out)
+givenBy Runs out = none
+
+abbrev pub fewBy : Ended → Type 0
+fewBy (Gives n) = n ≤ most
+fewBy Runs = Unit {0}
+
+-- what the frame m returns by the code of a block whose number of statements stands at an offset, and what it returns
+pub record Ending (s : List ℕ) (m : Frame) (at : ℕ) (out : List ℤ) (r : Ended) : Type 0 where
+  pub few : fewBy r
+  pub is : (P : Program) (B : Block) → Codes s at B → givenBy r out ≡ Rules.returned [] (Rules.coming P m B (getElem? (B .code) (m .done)))
+
+pub record Giving (s places : List ℕ) (m : Frame) (out : List ℤ) (r : Ended) : Type 0 where
+  pub few : fewBy r
+  pub is : (P : Program) → Places s P places → givenBy r out ≡ Rules.returned [] (Rules.act P m)

@@ -1,20 +1,18 @@
-// The ten rules as functions of one frame: the frame by value in, an act out. The table is read in place; no word is touched.
-use eval::Values;
+// The ten rules: what the frame at a place of the pool's words does next. The words and the table are read in place; no word is
+// touched. Values that are passed on go into a buffer of the caller's.
 use frames::Frame;
 use places::Place;
 ghost use mathlib.Core.Path.{_≡_};
-ghost use mathlib.Core.List.{[]};
-ghost use Prim.Native.Nat.{_+_, _<_};
+ghost use Prim.Native.Nat.{_+_, _<_, _≤_};
 ghost use lib.ListN.{length, take};
 ghost use Rattle.model.specs.Numbers as No;
 ghost use Rattle.model.specs.Sets as Sets;
 ghost use Rattle.model.specs.Pool as Model;
-ghost use Rattle.model.specs.Frames as Frames;
-ghost use Rattle.model.specs.Rules as Rules;
+ghost use Rattle.model.specs.Pool.{frameWords};
 ghost use Rattle.frames.specs.Frame.{modelOf};
-ghost use Rattle.eval.specs.Given.{valuesOf};
-ghost use Rattle.eval.specs.Bytes.{argumentsAt};
-ghost use Rattle.rules.specs.Acts.{frameOf, actOf, Entering, Enters, Begins, Spawns, Promotes, Opens};
+ghost use Rattle.frames.specs.InPlace.{frameAt};
+ghost use Rattle.eval.specs.Code.{most};
+ghost use Rattle.rules.specs.Acts.{acting, Enters, Few, Takes, Spawns, Ending, Giving};
 ghost use Rattle.rules.specs.Acts as Rule;
 
 // The numbers of the rules, and the one of a frame to which none applies.
@@ -44,175 +42,73 @@ impl Number {
     pub const STUCK: u8 = 19;
 }
 
-// A frame, or none.
-pub struct Entered {
-    pub ok: bool,
-    pub frame: Frame,
-}
-
-// A call to promote, and the frame with it promoted, or none.
-pub struct ToPromote {
-    pub ok: bool,
-    pub call: u8,
-    pub frame: Frame,
-}
-
-// What the newest frame does next: it refuses; it goes on by a rule, as `frame`; it calls, and `frame` waits for `callee`; it
-// returns `values`; it waits at a promoted spoin, as `frame` with its last call closed, for the block to go to.
+// What a frame does next: it refuses; it binds a temporary to `value`; it enters `block` by a rule; it enters `block` with one
+// more call open, or with its last call closed; it calls a function and waits at `block`; it returns; it waits at a promoted spoin
+// for the block to go to. A block that is entered by a rule has its parameters at `parameters`. Values that are passed on, for the
+// parameters, to the function, to the caller, are the first `count` of the buffer.
 pub enum Does {
     Refuse(u8),
-    Stay(u8),
-    Push,
+    Bind(u8),
+    Enter(u8),
+    Open(u8),
+    Close,
+    Push(u8),
     Pop,
     Join(u8),
 }
 
 pub struct Acted {
     pub does: Does,
-    pub frame: Frame,
-    pub callee: Frame,
-    pub values: Values,
-}
-
-// No values.
-pub fn nothing() -> Values
-    ensures { λ r. ⌜ valuesOf r ≡ [] ⌝ }
-{
-    Values {
-        count: 0,
-        at: [0; 8],
-    }
+    pub block: u8,
+    pub count: u8,
+    pub value: i32,
+    pub parameters: usize,
 }
 
 // The acts.
-fn stuck(k: Frame) -> Acted
-    ensures { λ r. ⌜ actOf r ≡ Rules.Act.refuse No.stuck ⌝ }
+pub fn doing(does: Does, block: u8, count: u8) -> Acted
+    ensures { λ r. ⌜ r ≡ acting does block count ⌝ }
 {
     Acted {
-        does: Does::Refuse(Number::STUCK),
-        frame: k,
-        callee: k,
-        values: nothing(),
+        does,
+        block,
+        count,
+        value: 0,
+        parameters: 0,
     }
 }
 
-fn stay(rule: u8, k: Frame) -> Acted
-    ensures { λ r. ⌜ actOf r ≡ Rules.Act.stay rule (modelOf k) ⌝ }
+pub fn refuse(n: u8) -> Acted
+    ensures { λ r. ⌜ r ≡ acting (Does.Refuse n) 0 0 ⌝ }
 {
-    Acted {
-        does: Does::Stay(rule),
-        frame: k,
-        callee: k,
-        values: nothing(),
-    }
+    doing(Does::Refuse(n), 0, 0)
 }
 
-fn by(rule: u8, e: Entered) -> Acted
-    ensures { λ r. ⌜ actOf r ≡ Rules.by rule (frameOf e) ⌝ }
+fn stuck() -> Acted
+    ensures { λ r. ⌜ r ≡ acting (Does.Refuse No.stuck) 0 0 ⌝ }
 {
-    let k = e.frame;
-    if e.ok {
-        return stay(rule, k);
-    }
-    stuck(k)
+    refuse(Number::STUCK)
 }
 
-fn push(k: Frame, l: Frame) -> Acted
-    ensures { λ r. ⌜ actOf r ≡ Rules.Act.push (modelOf k) (modelOf l) ⌝ }
+// Block b of function f is entered with n values, if it is there and takes as many.
+pub fn enter(s: &[u8], places: &[u16; 656], f: u8, b: u8, n: u8, does: Does) -> Acted
+    ensures { λ r. ⌜ Enters (now (s .entry)) (now (places .entry)) f b n does r ⌝ }
 {
-    Acted {
-        does: Does::Push,
-        frame: k,
-        callee: l,
-        values: nothing(),
-    }
-}
-
-fn pop(k: Frame, v: Values) -> Acted
-    ensures { λ r. ⌜ actOf r ≡ Rules.Act.pop (valuesOf v) ⌝ }
-{
-    Acted {
-        does: Does::Pop,
-        frame: k,
-        callee: k,
-        values: v,
-    }
-}
-
-fn join(k: Frame, c: u8) -> Acted
-    ensures { λ r. ⌜ actOf r ≡ Rules.Act.join (modelOf k) c ⌝ }
-{
-    Acted {
-        does: Does::Join(c),
-        frame: k,
-        callee: k,
-        values: nothing(),
-    }
-}
-
-// The frame at statement n of block b.
-fn go_to(k: Frame, b: u8, n: u8) -> Frame
-    ensures { λ r. ⌜ modelOf r ≡ Frames.goTo (modelOf k) b n ⌝ }
-{
-    let mut r = k;
-    r.block = b;
-    r.done = n;
-    r
-}
-
-// How many calls are open: 4 at most.
-fn open_calls(k: Frame) -> u8
-    ensures { λ r. ⌜ r ≡ length (modelOf k .calls) ⌝ }
-{
-    if k.opened < 4 { k.opened } else { 4 }
-}
-
-// The frame with one more call open, and with the first n alone.
-fn opening(k: Frame, call: u8) -> Frame
-    ensures { λ r. ⌜ Opens k call r ⌝ }
-{
-    let mut r = k;
-    let n = k.opened;
-    if n < 4 {
-        let i = n as usize;
-        r.calls[i] = call;
-        r.opened = n + 1;
-    }
-    r
-}
-
-fn deque(k: Frame, n: u8, promoted: u8) -> Frame
-    ensures { λ r. ⌜ modelOf r ≡ Frames.deque (modelOf k) (take n (k .calls)) promoted ⌝ }
-{
-    let mut r = k;
-    r.opened = n;
-    r.promoted = promoted;
-    r
-}
-
-// The frame at the head of block b, which stands at an offset, with values for its parameters.
-fn entering(s: &[u8], at: usize, k: Frame, b: u8, v: Values) -> Entered
-    ensures { λ r. ⌜ Entering (now (s .entry)) at k b v r ⌝ }
-{
-    if eval::count(s, at) != eval::given(v) {
-        return Entered {
-            ok: false,
-            frame: k,
-        };
-    }
-    let frame = eval::bind_all(s, at, go_to(k, b, 0), v);
-    Entered { ok: true, frame }
-}
-
-pub fn enter(s: &[u8], places: &[u16; 656], k: Frame, b: u8, v: Values) -> Entered
-    ensures { λ r. ⌜ Enters (now (s .entry)) (now (places .entry)) k b v r ⌝ }
-{
-    match places::block(places, k.function as usize, b as usize) {
-        Place::At(at) => entering(s, at, k, b, v),
-        Place::Nowhere => Entered {
-            ok: false,
-            frame: k,
-        },
+    match places::block(places, f as usize, b as usize) {
+        Place::At(at) => {
+            if eval::count(s, at) == n {
+                Acted {
+                    does,
+                    block: b,
+                    count: n,
+                    value: 0,
+                    parameters: at,
+                }
+            } else {
+                stuck()
+            }
+        }
+        Place::Nowhere => stuck(),
     }
 }
 
@@ -224,23 +120,31 @@ fn below(n: u8) -> u16
     (1 << n) - 1
 }
 
-// The first frame of function g.
-fn begin(g: u8, v: Values) -> Frame
-    ensures { λ r. ⌜ modelOf r ≡ Model.begin g (valuesOf v) ⌝ }
+// How many of n values a buffer has.
+fn few(n: u8) -> u8
+    ensures { λ r. ⌜ Few n r ⌝ }
 {
-    let n = eval::given(v);
+    if n < 8 { n } else { 8 }
+}
+
+// The first frame of function g, with the first n values of a buffer.
+pub fn begin(g: u8, n: u8, v: &[i32]) -> Frame
+    requires { ⌜ length (now v) ≡ most ⌝ }
+    ensures { λ r. ⌜ modelOf r ≡ Model.begin g (take n (now (v .entry))) ⌝ }
+{
+    let count = few(n);
     let mut values = [0i32; 16];
     let mut i: u8 = 0;
-    while i < n {
+    while i < count {
         let j = i as usize;
-        values[j] = v.at[j];
+        values[j] = v[j];
         i += 1;
     }
     Frame {
         function: g,
         block: 0,
         done: 0,
-        bound: below(n),
+        bound: below(count),
         opened: 0,
         promoted: 0,
         calls: [0; 4],
@@ -248,261 +152,312 @@ fn begin(g: u8, v: Values) -> Frame
     }
 }
 
-// The first frame of a call of g.
-pub fn callee(s: &[u8], places: &[u16; 656], g: u8, v: Values) -> Entered
-    ensures { λ r. ⌜ Begins (now (s .entry)) (now (places .entry)) g v r ⌝ }
+// Is function g there, and does it take n values?
+fn takes(s: &[u8], places: &[u16; 656], g: u8, n: u8) -> bool
+    ensures { λ r. ⌜ Takes (now (s .entry)) (now (places .entry)) g n r ⌝ }
 {
-    let frame = begin(g, v);
     match places::function(places, g as usize) {
-        Place::At(at) => {
-            let n = eval::byte(s, at);
-            if n == eval::given(v) {
-                Entered { ok: true, frame }
-            } else {
-                Entered { ok: false, frame }
-            }
-        }
-        Place::Nowhere => Entered { ok: false, frame },
+        Place::At(at) => bytes::byte(s, at) == n,
+        Place::Nowhere => false,
     }
 }
 
-// The first frame of a child: a spawn call's function, with the arguments read from the frame that holds the call.
-pub fn child(s: &[u8], places: &[u16; 656], k: Frame, call: u8) -> Entered
-    ensures { λ r. ⌜ Spawns (now (s .entry)) (now (places .entry)) k call r ⌝ }
+// A spawn call of the frame at k: its function is called with the arguments read from the frame.
+pub fn child(
+    s: &[u8],
+    places: &[u16; 656],
+    ws: &[i32],
+    k: usize,
+    call: u8,
+    out: &mut [i32],
+) -> Acted
+    requires { ⌜ (k + frameWords ≤ length (now ws)) × (length (now out) ≡ most) ⌝ }
+    ensures { λ r. ⌜ Spawns (now (s .entry)) (now (places .entry)) (frameAt (now (ws .entry)) k) call (now (out .exit)) r ⌝ }
 {
-    match places::spawn(places, k.function as usize, call as usize) {
+    match places::spawn(places, frames::function(ws, k) as usize, call as usize) {
         Place::At(at) => {
-            let l = eval::look_all(s, eval::after(s, at, 1), k);
-            if !l.ok {
-                return Entered {
-                    ok: false,
-                    frame: k,
-                };
+            let list = bytes::after(at, 1);
+            if !eval::look_all(s, list, ws, k, out) {
+                return stuck();
             }
-            let v = l.values;
-            callee(s, places, eval::byte(s, at), v)
+            let g = bytes::byte(s, at);
+            let n = eval::count(s, list);
+            if !takes(s, places, g, n) {
+                return stuck();
+            }
+            doing(Does::Push(g), 0, n)
         }
-        Place::Nowhere => Entered {
-            ok: false,
-            frame: k,
-        },
-    }
-}
-
-// The frame's oldest unpromoted call, and the frame with it promoted.
-pub fn unpromoted(k: Frame) -> ToPromote
-    ensures { λ r. ⌜ Promotes k r ⌝ }
-{
-    let n = k.promoted;
-    if n < open_calls(k) {
-        let i = n as usize;
-        let call = k.calls[i];
-        let mut frame = k;
-        frame.promoted = n + 1;
-        return ToPromote {
-            ok: true,
-            call,
-            frame,
-        };
-    }
-    ToPromote {
-        ok: false,
-        call: 0,
-        frame: k,
+        Place::Nowhere => stuck(),
     }
 }
 
 // stmt: the statement at an offset.
-fn stmt(s: &[u8], k: Frame, at: usize) -> Acted
-    requires { ⌜ k .done < 255 ⌝ }
-    ensures { λ r. ⌜ Rule.Stmt (now (s .entry)) k at r ⌝ }
+fn stmt(s: &[u8], ws: &[i32], k: usize, at: usize) -> Acted
+    requires { ⌜ k + frameWords ≤ length (now ws) ⌝ }
+    ensures { λ r. ⌜ Rule.Stmt (now (s .entry)) (frameAt (now (ws .entry)) k) at r ⌝ }
 {
-    let v = eval::eval(s, eval::after(s, at, 1), k);
+    let v = eval::eval(s, bytes::after(at, 1), ws, k);
     if !v.ok {
-        return stuck(k);
+        return stuck();
     }
-    let f = eval::bind(k, eval::byte(s, at), v.value);
-    stay(Number::STMT, go_to(f, k.block, k.done + 1))
+    Acted {
+        does: Does::Bind(bytes::byte(s, at)),
+        block: 0,
+        count: 0,
+        value: v.value,
+        parameters: 0,
+    }
 }
 
 // goto: the block and its arguments at an offset.
-fn goto(s: &[u8], places: &[u16; 656], k: Frame, at: usize) -> Acted
-    ensures { λ r. ⌜ Rule.Goto (now (s .entry)) (now (places .entry)) k at r ⌝ }
+fn goto(s: &[u8], places: &[u16; 656], ws: &[i32], k: usize, at: usize, out: &mut [i32]) -> Acted
+    requires { ⌜ (k + frameWords ≤ length (now ws)) × (length (now out) ≡ most) ⌝ }
+    ensures { λ r. ⌜ Rule.Goto (now (s .entry)) (now (places .entry)) (frameAt (now (ws .entry)) k) at (now (out .exit)) r ⌝ }
 {
-    let l = eval::look_all(s, eval::after(s, at, 1), k);
-    if !l.ok {
-        return stuck(k);
+    let list = bytes::after(at, 1);
+    if !eval::look_all(s, list, ws, k, out) {
+        return stuck();
     }
-    let v = l.values;
-    by(Number::GOTO, enter(s, places, k, eval::byte(s, at), v))
+    enter(
+        s,
+        places,
+        frames::function(ws, k),
+        bytes::byte(s, at),
+        eval::count(s, list),
+        Does::Enter(Number::GOTO),
+    )
 }
 
 // then and else: the value is not 0, or is.
-fn branch(s: &[u8], places: &[u16; 656], k: Frame, b: u8, c: u8, v: i32) -> Acted
-    ensures { λ r. ⌜ Rule.Branch (now (s .entry)) (now (places .entry)) k b c v r ⌝ }
+fn branch(s: &[u8], places: &[u16; 656], f: u8, b: u8, c: u8, v: i32) -> Acted
+    ensures { λ r. ⌜ Rule.Branch (now (s .entry)) (now (places .entry)) f b c v r ⌝ }
 {
     if v == 0 {
-        return by(Number::ELSE, enter(s, places, k, c, nothing()));
+        return enter(s, places, f, c, 0, Does::Enter(Number::ELSE));
     }
-    by(Number::THEN, enter(s, places, k, b, nothing()))
+    enter(s, places, f, b, 0, Does::Enter(Number::THEN))
 }
 
-fn test(s: &[u8], places: &[u16; 656], k: Frame, at: usize) -> Acted
-    ensures { λ r. ⌜ Rule.If (now (s .entry)) (now (places .entry)) k at r ⌝ }
+fn test(s: &[u8], places: &[u16; 656], ws: &[i32], k: usize, at: usize) -> Acted
+    requires { ⌜ k + frameWords ≤ length (now ws) ⌝ }
+    ensures { λ r. ⌜ Rule.If (now (s .entry)) (now (places .entry)) (frameAt (now (ws .entry)) k) at r ⌝ }
 {
-    let v = eval::eval(s, at, k);
+    let v = eval::eval(s, at, ws, k);
     if !v.ok {
-        return stuck(k);
+        return stuck();
     }
     let end = eval::expression_end(s, at);
     branch(
         s,
         places,
-        k,
-        eval::byte(s, end),
-        eval::byte(s, eval::after(s, end, 1)),
+        frames::function(ws, k),
+        bytes::byte(s, end),
+        bytes::byte(s, bytes::after(end, 1)),
         v.value,
     )
 }
 
 // call: the function and its arguments at an offset, and the block to return to.
-fn call(s: &[u8], places: &[u16; 656], k: Frame, at: usize, b: u8) -> Acted
-    ensures { λ r. ⌜ Rule.Call (now (s .entry)) (now (places .entry)) k at b r ⌝ }
+fn call(
+    s: &[u8],
+    places: &[u16; 656],
+    ws: &[i32],
+    k: usize,
+    at: usize,
+    b: u8,
+    out: &mut [i32],
+) -> Acted
+    requires { ⌜ (k + frameWords ≤ length (now ws)) × (length (now out) ≡ most) ⌝ }
+    ensures { λ r. ⌜ Rule.Call (now (s .entry)) (now (places .entry)) (frameAt (now (ws .entry)) k) at b (now (out .exit)) r ⌝ }
 {
-    let l = eval::look_all(s, eval::after(s, at, 1), k);
-    if !l.ok {
-        return stuck(k);
+    let list = bytes::after(at, 1);
+    if !eval::look_all(s, list, ws, k, out) {
+        return stuck();
     }
-    let v = l.values;
-    let e = callee(s, places, eval::byte(s, at), v);
-    if !e.ok {
-        return stuck(k);
+    let g = bytes::byte(s, at);
+    let n = eval::count(s, list);
+    if !takes(s, places, g, n) {
+        return stuck();
     }
-    match places::block(places, k.function as usize, b as usize) {
-        Place::At(_) => {
-            let f = e.frame;
-            push(go_to(k, b, 0), f)
-        }
-        Place::Nowhere => stuck(k),
+    match places::block(places, frames::function(ws, k) as usize, b as usize) {
+        Place::At(_) => doing(Does::Push(g), b, n),
+        Place::Nowhere => stuck(),
     }
 }
 
 // return: with nothing open.
-fn give_back(s: &[u8], k: Frame, at: usize) -> Acted
-    ensures { λ r. ⌜ actOf r ≡ Rules.return (modelOf k) (argumentsAt (now (s .entry)) at) ⌝ }
+fn give_back(s: &[u8], ws: &[i32], k: usize, at: usize, out: &mut [i32]) -> Acted
+    requires { ⌜ (k + frameWords ≤ length (now ws)) × (length (now out) ≡ most) ⌝ }
+    ensures { λ r. ⌜ Rule.Return (now (s .entry)) (frameAt (now (ws .entry)) k) at (now (out .exit)) r ⌝ }
 {
-    let l = eval::look_all(s, at, k);
-    if !l.ok {
-        return stuck(k);
+    if !eval::look_all(s, at, ws, k, out) {
+        return stuck();
     }
-    if open_calls(k) != 0 {
-        return stuck(k);
+    if frames::opened(ws, k) != 0 {
+        return stuck();
     }
-    let v = l.values;
-    pop(k, v)
+    doing(Does::Pop, 0, eval::count(s, at))
 }
 
 // spork: the spawn call is there, and under four are open. No argument is read.
-fn spork(s: &[u8], places: &[u16; 656], k: Frame, b: u8, call: u8) -> Acted
-    ensures { λ r. ⌜ Rule.Spork (now (s .entry)) (now (places .entry)) k b call r ⌝ }
+fn spork(s: &[u8], places: &[u16; 656], ws: &[i32], k: usize, b: u8, call: u8) -> Acted
+    requires { ⌜ k + frameWords ≤ length (now ws) ⌝ }
+    ensures { λ r. ⌜ Rule.Spork (now (s .entry)) (now (places .entry)) (frameAt (now (ws .entry)) k) b call r ⌝ }
 {
-    match places::spawn(places, k.function as usize, call as usize) {
+    let f = frames::function(ws, k);
+    match places::spawn(places, f as usize, call as usize) {
         Place::At(_) => {
-            if k.opened < 4 {
-                by(
-                    Number::SPORK,
-                    enter(s, places, opening(k, call), b, nothing()),
-                )
+            if frames::opened(ws, k) < 4 {
+                enter(s, places, f, b, 0, Does::Open(call))
             } else {
-                stuck(k)
+                stuck()
             }
         }
-        Place::Nowhere => stuck(k),
+        Place::Nowhere => stuck(),
     }
 }
 
 // unpr and prom: the last open call is unpromoted, or promoted, as all of the frame's then are.
-fn spoin(s: &[u8], places: &[u16; 656], k: Frame, b: u8, c: u8) -> Acted
-    ensures { λ r. ⌜ Rule.Spoin (now (s .entry)) (now (places .entry)) k b c r ⌝ }
+fn spoin(s: &[u8], places: &[u16; 656], ws: &[i32], k: usize, b: u8, c: u8) -> Acted
+    requires { ⌜ k + frameWords ≤ length (now ws) ⌝ }
+    ensures { λ r. ⌜ Rule.Spoin (now (s .entry)) (now (places .entry)) (frameAt (now (ws .entry)) k) b c r ⌝ }
 {
-    let n = open_calls(k);
+    let n = frames::opened(ws, k);
     if n == 0 {
-        return stuck(k);
+        return stuck();
     }
-    let promoted = k.promoted;
-    if promoted < n {
-        return by(
-            Number::UNPR,
-            enter(s, places, deque(k, n - 1, promoted), b, nothing()),
-        );
+    if frames::promoted(ws, k) < n {
+        return enter(s, places, frames::function(ws, k), b, 0, Does::Close);
     }
-    join(deque(k, n - 1, promoted - 1), c)
+    doing(Does::Join(c), 0, 0)
 }
 
 // The transfer at an offset, by its kind.
-fn transfer(s: &[u8], places: &[u16; 656], k: Frame, at: usize) -> Acted
-    ensures { λ r. ⌜ Rule.Transfer (now (s .entry)) (now (places .entry)) k at r ⌝ }
+fn transfer(
+    s: &[u8],
+    places: &[u16; 656],
+    ws: &[i32],
+    k: usize,
+    at: usize,
+    out: &mut [i32],
+) -> Acted
+    requires { ⌜ (k + frameWords ≤ length (now ws)) × (length (now out) ≡ most) ⌝ }
+    ensures { λ r. ⌜ Rule.Transfer (now (s .entry)) (now (places .entry)) (frameAt (now (ws .entry)) k) at (now (out .exit)) r ⌝ }
 {
-    let kind = eval::byte(s, at);
-    let first = eval::after(s, at, 1);
+    let kind = bytes::byte(s, at);
+    let first = bytes::after(at, 1);
     if kind == 0 {
-        return goto(s, places, k, first);
+        return goto(s, places, ws, k, first, out);
     }
     if kind == 1 {
-        return test(s, places, k, first);
+        return test(s, places, ws, k, first);
     }
-    let second = eval::after(s, first, 1);
+    let second = bytes::after(first, 1);
     if kind == 2 {
         return call(
             s,
             places,
+            ws,
             k,
             first,
-            eval::byte(s, eval::list_end(s, second)),
+            bytes::byte(s, eval::list_end(s, second)),
+            out,
         );
     }
     if kind == 3 {
-        return give_back(s, k, first);
+        return give_back(s, ws, k, first, out);
     }
     ends(
         s,
         places,
+        ws,
         k,
         kind,
-        eval::byte(s, first),
-        eval::byte(s, second),
+        bytes::byte(s, first),
+        bytes::byte(s, second),
     )
 }
 
 // spork and spoin, by their kind.
-fn ends(s: &[u8], places: &[u16; 656], k: Frame, kind: u8, b: u8, c: u8) -> Acted
-    ensures { λ r. ⌜ Rule.Ends (now (s .entry)) (now (places .entry)) k kind b c r ⌝ }
+fn ends(s: &[u8], places: &[u16; 656], ws: &[i32], k: usize, kind: u8, b: u8, c: u8) -> Acted
+    requires { ⌜ k + frameWords ≤ length (now ws) ⌝ }
+    ensures { λ r. ⌜ Rule.Ends (now (s .entry)) (now (places .entry)) (frameAt (now (ws .entry)) k) kind b c r ⌝ }
 {
     if kind == 4 {
-        return spork(s, places, k, b, c);
+        return spork(s, places, ws, k, b, c);
     }
-    spoin(s, places, k, b, c)
+    spoin(s, places, ws, k, b, c)
 }
 
 // The statement that comes next, or the transfer: the number of the block's statements stands at an offset.
-fn coming(s: &[u8], places: &[u16; 656], k: Frame, at: usize) -> Acted
-    ensures { λ r. ⌜ Rule.Coming (now (s .entry)) (now (places .entry)) k at r ⌝ }
+fn coming(s: &[u8], places: &[u16; 656], ws: &[i32], k: usize, at: usize, out: &mut [i32]) -> Acted
+    requires { ⌜ (k + frameWords ≤ length (now ws)) × (length (now out) ≡ most) ⌝ }
+    ensures { λ r. ⌜ Rule.Coming (now (s .entry)) (now (places .entry)) (frameAt (now (ws .entry)) k) at (now (out .exit)) r ⌝ }
 {
-    let n = eval::byte(s, at);
-    let first = eval::after(s, at, 1);
-    let done = k.done;
+    let n = bytes::byte(s, at);
+    let first = bytes::after(at, 1);
+    let done = frames::done(ws, k);
     if done < n {
-        return stmt(s, k, eval::statements_end(s, first, done));
+        return stmt(s, ws, k, eval::statements_end(s, first, done));
     }
-    transfer(s, places, k, eval::statements_end(s, first, n))
+    transfer(s, places, ws, k, eval::statements_end(s, first, n), out)
 }
 
-// What a frame does next.
-pub fn act(s: &[u8], places: &[u16; 656], k: Frame) -> Acted
-    ensures { λ r. ⌜ Rule.Acts (now (s .entry)) (now (places .entry)) k r ⌝ }
+// What the frame at k does next.
+pub fn act(s: &[u8], places: &[u16; 656], ws: &[i32], k: usize, out: &mut [i32]) -> Acted
+    requires { ⌜ (k + frameWords ≤ length (now ws)) × (length (now out) ≡ most) ⌝ }
+    ensures { λ r. ⌜ Rule.Acts (now (s .entry)) (now (places .entry)) (frameAt (now (ws .entry)) k) (now (out .exit)) r ⌝ }
 {
-    match places::block(places, k.function as usize, k.block as usize) {
-        Place::At(at) => coming(s, places, k, eval::head_end(s, at)),
-        Place::Nowhere => stuck(k),
+    match places::block(
+        places,
+        frames::function(ws, k) as usize,
+        frames::block(ws, k) as usize,
+    ) {
+        Place::At(at) => coming(s, places, ws, k, eval::head_end(s, at), out),
+        Place::Nowhere => stuck(),
+    }
+}
+
+// The values that a frame returns, if that is what it does next: so many in the buffer.
+pub enum Ended {
+    Gives(u8),
+    Runs,
+}
+
+// What a frame returns by the code of its block: the number of the block's statements stands at an offset.
+fn ending(s: &[u8], ws: &[i32], k: usize, at: usize, out: &mut [i32]) -> Ended
+    requires { ⌜ (k + frameWords ≤ length (now ws)) × (length (now out) ≡ most) ⌝ }
+    ensures { λ r. ⌜ Ending (now (s .entry)) (frameAt (now (ws .entry)) k) at (now (out .exit)) r ⌝ }
+{
+    let n = bytes::byte(s, at);
+    if frames::done(ws, k) < n {
+        return Ended::Runs;
+    }
+    let end = eval::statements_end(s, bytes::after(at, 1), n);
+    if bytes::byte(s, end) != 3 {
+        return Ended::Runs;
+    }
+    if frames::opened(ws, k) != 0 {
+        return Ended::Runs;
+    }
+    let list = bytes::after(end, 1);
+    if !eval::look_all(s, list, ws, k, out) {
+        return Ended::Runs;
+    }
+    Ended::Gives(eval::count(s, list))
+}
+
+// What the frame at k returns.
+pub fn giving(s: &[u8], places: &[u16; 656], ws: &[i32], k: usize, out: &mut [i32]) -> Ended
+    requires { ⌜ (k + frameWords ≤ length (now ws)) × (length (now out) ≡ most) ⌝ }
+    ensures { λ r. ⌜ Giving (now (s .entry)) (now (places .entry)) (frameAt (now (ws .entry)) k) (now (out .exit)) r ⌝ }
+{
+    match places::block(
+        places,
+        frames::function(ws, k) as usize,
+        frames::block(ws, k) as usize,
+    ) {
+        Place::At(at) => ending(s, ws, k, eval::head_end(s, at), out),
+        Place::Nowhere => Ended::Runs,
     }
 }

@@ -1,5 +1,5 @@
 -- A thread's oldest unpromoted call: in the oldest frame that has one.
-use Prim.Native.Nat.{ℕ, zero, suc, _+_, _≤_}
+use Prim.Native.Nat.{ℕ, _+_}
 use mathlib.Core.Path.{_≡_, refl, ap}
 use mathlib.Core.Option.{none, some}
 use mathlib.Core.List.{List, [], _∷_, _++_}
@@ -9,16 +9,12 @@ use Rattle.model.specs.Lists.{Each}
 use Rattle.model.specs.Pool.{Frame, frames, stack}
 use Rattle.model.specs.Frames.{deque}
 use Rattle.model.specs.Rules.{promoteIn, orElse, oldest}
+use Rattle.model.proofs.Facts.{past-at}
 use Rattle.steps.specs.Choice.{Done}
-
-at-none : {A : Type 0} (xs : List A) (i : ℕ) → length xs ≤ i → getElem? xs i ≡ none
-at-none [] i h = refl
-at-none (x ∷ xs) zero h = absurd (omega arith)
-at-none (x ∷ xs) (suc i) h = at-none xs i (omega arith)
 
 promote-none : (k : Frame) (K : List Frame) → Done k → promoteIn k K ≡ none
 unfolding promoteIn
-promote-none k K h = rw (at-none (k .calls) (k .promoted) h)
+promote-none k K h = rw (past-at (k .calls) (k .promoted) h)
 
 -- no frame has one
 pub oldest-none : (k : Frame) (K : List Frame) → Each Done (k ∷ K) → oldest k K ≡ none

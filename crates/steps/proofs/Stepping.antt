@@ -1,110 +1,100 @@
--- Which threads can step: those whose decision is a rule.
-use Prim.Native.Nat.{ℕ, _+_, _<_}
-use mathlib.Core.Path.{_≡_, refl, ap, subst, _∙_}
+-- Which threads can step: those whose step, tried, is a rule. A refused one leaves the words as they were.
+use Prim.Native.Nat.{ℕ, _+_, _≤_, _<_}
+use mathlib.Core.Path.{_≡_, refl, sym, ap, subst, _∙_}
 use mathlib.Core.Bool.{Bool, true, false}
-use mathlib.Core.List.{List, [], _∷_}
+use mathlib.Core.List.{List}
 use native.Mathlib.Omega.{arith}
 use lib.Dec.{ltb}
 use lib.IntN.{ℤ}
 use lib.ListN.{length}
 use Rattle.model.specs.Numbers as No
+use Rattle.model.specs.Answers.{Answer}
 use Rattle.model.specs.Syntax.{Program}
-use Rattle.model.specs.Pool.{Frame, Thread, Pool, wordsOf, isPool}
-use Rattle.model.specs.Rules.{Result, step, onThread, choice}
+use Rattle.model.specs.Pool.{Pool, poolWords, wordsOf, isPool}
+use Rattle.model.specs.Rules.{Result, step, choice}
+use Rattle.model.specs.Calls.{Called, made}
 use Rattle.model.proofs.Facts.{true-false, ltb-true, ltb-false}
 use Rattle.places.specs.Places.{Places}
-use Rattle.frames.specs.Held.{ThreadAt}
+use Rattle.words.specs.Runs.{pasted}
 use Rattle.frames.specs.Edits.{threadsIn}
-use Rattle.frames.specs.Frame.{modelOf}
-use Rattle.frames.proofs.Steps.{frames-counted, threads-counted}
-use Rattle.steps.specs.declared.Effect.{Effect}
-use Rattle.steps.specs.declared.Effect.the-variants.{Refuse, Replace, Push, Pop, Join}
-use Rattle.steps.specs.declared.Decided.{Decided}
-use Rattle.steps.specs.Decision.{popped, joined, effected, before}
-use Rattle.steps.specs.Choice.{decisionBy, decisionOf, Room, DecidesAt, Goes, Stops, goesOn}
-use Rattle.steps.proofs.Effects.{on-thread, on-none}
-use Rattle.steps.proofs.Choosing.{Around, around, known-at, pool-counted}
+use Rattle.frames.proofs.Parts.{paste-all}
+use Rattle.steps.specs.declared.Made.{Made}
+use Rattle.steps.specs.declared.Made.the-variants.{Rule, Refused}
+use Rattle.steps.specs.declared.Stepper.{Stepper}
+use Rattle.steps.specs.Choice.{answerOf, Goes, Stops, Tried, Tries, FindsStepper, Chooses}
+use Rattle.steps.proofs.Effects.{on-none}
+use Rattle.steps.proofs.Choosing.{pool-counted}
 
--- a result that is made, and one that is refused
-abbrev Makes : Result → Type 0
-Makes r = (rule : ℕ) × (p : Pool) × (r ≡ Result.made rule p)
+isGiven : Answer ℕ → Bool
+isGiven (Answer.given n) = true
+isGiven (Answer.refused r) = false
 
-abbrev Refuses : Result → Type 0
-Refuses r = (n : ℕ) × (r ≡ Result.refused n)
-
-module _ (ws : List ℤ) (i : ℕ) (a : Pool) (t : Thread) (b : Pool) (h : ThreadAt ws i a t b) (d : Decided) where
-  makes : (e : Effect) → Room ws i e → goesOn e ≡ true → Makes (before a (effected (t .older) b (decisionBy e d)))
-  unfolding before effected popped joined
-  makes (Refuse n) o q = true-false false q refl
-  makes (Replace rule) o q = (_, _, refl)
-  makes Push o q = (_, _, refl)
-  makes Pop o q = go (t .older) (omega (arith, frames-counted h))
+-- a choice of a step, by its answer
+module _ {s places : List ℕ} {ws : List ℤ} {i : ℕ} {r : Made} {ws′ : List ℤ} (f : Chooses s places ws 0 i r ws′) where
+  pub tries-goes : {n : ℕ} → r ≡ Rule n → Tries s places ws i true ws′
+  unfolding made isGiven
+  tries-goes {n} e P p q w v = go (choice P p 0 i) refl
     where
-      go : (K : List Frame) → 0 < length K → Makes (before a (popped K b (modelOf (d .frame))))
-      go [] l = absurd (omega arith)
-      go (k ∷ K) l = (_, _, refl)
-  makes Join o q = go b (omega (arith, threads-counted h, h .place))
+      same : _≡_ {A = Called ℕ} (record { answer = answerOf r; after = ws′ }) (made ws (choice P p 0 i))
+      same = f P p q w v .called
+
+      go : (x : Result) → choice P p 0 i ≡ x → Goes P p i
+      go (Result.made rule p′) y = (rule, p′, y)
+      go (Result.refused m) y =
+          true-false true refl
+          (ap (λ (z : Made). isGiven (answerOf z)) (sym e) ∙ ap (λ (c : Called ℕ). isGiven (c .answer)) (same ∙ ap (made ws) y))
+
+  pub tries-stops : {n : ℕ} → r ≡ Refused n → Tries s places ws i false ws′
+  unfolding made isGiven
+  tries-stops {n} e P p q w v = go (choice P p 0 i) refl
     where
-      go : (b : Pool) → 0 < length b → Makes (before a (joined (t .older) b (modelOf (d .frame))))
-      go [] l = absurd (omega arith)
-      go (u ∷ b) l = (_, _, refl)
+      same : _≡_ {A = Called ℕ} (record { answer = answerOf r; after = ws′ }) (made ws (choice P p 0 i))
+      same = f P p q w v .called
 
-  refuses : (e : Effect) → goesOn e ≡ false → Refuses (before a (effected (t .older) b (decisionBy e d)))
-  unfolding before effected
-  refuses (Refuse n) q = (n, refl)
-  refuses (Replace rule) q = true-false true refl q
-  refuses Push q = true-false true refl q
-  refuses Pop q = true-false true refl q
-  refuses Join q = true-false true refl q
+      go : (x : Result) → choice P p 0 i ≡ x → Stops P p i × (ws′ ≡ ws)
+      go (Result.made rule p′) y =
+          true-false true refl
+          (sym (ap (λ (c : Called ℕ). isGiven (c .answer)) (same ∙ ap (made ws) y)) ∙ ap (λ (z : Made). isGiven (answerOf z)) e)
+      go (Result.refused m) y = ((m, y), ap (λ (c : Called ℕ). c .after) (same ∙ ap (made ws) y))
 
-module _ (s places : List ℕ) (ws : List ℤ) (i : ℕ) (d : Decided) (f : DecidesAt s places ws i d) where
-  step-is : (P : Program) (p : Pool) → Places s P places → (w : ws ≡ wordsOf p) (v : isPool P p ≡ true) (x : Around p i)
-      → choice P p 0 i ≡ before (x .front) (effected (x .thread .older) (x .back) (decisionOf d))
+-- the threads up to i do not step, and the words are still those at the start
+pub record Idle (s places : List ℕ) (ws₀ ws : List ℤ) (i : ℕ) : Type 0 where
+  pub long : length ws ≡ poolWords
+  pub same : (P : Program) (p : Pool) → Places s P places → ws₀ ≡ wordsOf p → isPool P p ≡ true → ws ≡ ws₀
+  pub stops : (P : Program) (p : Pool) → Places s P places → ws₀ ≡ wordsOf p → isPool P p ≡ true → (j : ℕ) → j < i → Stops P p j
+
+pub idle-none : (s places : List ℕ) (ws : List ℤ) → length ws ≡ poolWords → Idle s places ws ws 0
+idle-none s places ws l = record { long = l; same = λ P p q w v. refl; stops = λ P p q w v j h. absurd (omega arith) }
+
+module _ {s places : List ℕ} {ws₀ ws : List ℤ} {i : ℕ} (h : Idle s places ws₀ ws i) where
+  pub idle-goes : (ws′ : List ℤ) (r : Bool) → r ≡ true → Tries s places ws i r ws′ → (P : Program) (p : Pool) → Places s P places → ws₀ ≡ wordsOf p → isPool P p ≡ true → Goes P p i
+  idle-goes ws′ r e f P p q w v = subst (λ (b : Bool). Tried P p ws i b ws′) e (f P p q (h .same P p q w v ∙ w) v)
+
+  pub idle-more : {ws′ : List ℤ} (r : Bool) → r ≡ false → length ws′ ≡ poolWords → Tries s places ws i r ws′ → Idle s places ws₀ ws′ (i + 1)
+  idle-more {ws′} r e l f =
+      record {
+        long = l;
+        same = λ P p q w v. tried P p q w v .1 ∙ h .same P p q w v;
+        stops = λ P p q w v j o. go P p q w v j o (ltb j i) refl;
+      }
+    where
+      tried : (P : Program) (p : Pool) → Places s P places → ws₀ ≡ wordsOf p → isPool P p ≡ true → Tried P p ws i false ws′
+      tried P p q w v = subst (λ (b : Bool). Tried P p ws i b ws′) e (f P p q (h .same P p q w v ∙ w) v)
+
+      go : (P : Program) (p : Pool) → Places s P places → ws₀ ≡ wordsOf p → isPool P p ≡ true → (j : ℕ) → j < i + 1 → (b : Bool) → ltb j i ≡ b → Stops P p j
+      go P p q w v j o true e = h .stops P p q w v j (ltb-true j i e)
+      go P p q w v j o false e =
+          let z : i ≡ j = omega (arith, ltb-false j i e) in
+          subst (Stops P p) z (tried P p q w v .0)
+
+  pub idle-all : {n : ℕ} → n ≡ threadsIn ws₀ → n ≤ i → (P : Program) (p : Pool) → Places s P places → ws₀ ≡ wordsOf p → isPool P p ≡ true → (j : ℕ) → Stops P p j
   unfolding choice
-  step-is P p q w v x =
-      ap (λ (p : Pool). onThread (step P) p i) (x .is)
-      ∙ on-thread (step P) (x .front) (x .thread) (x .back) i (x .place)
-      ∙ ap (before (x .front)) (f P (x .front) (x .thread) (x .back) (known-at P p w v q x) .is)
+  idle-all {n} c l P p q w v j = go (ltb j i) refl
+    where
+      go : (b : Bool) → ltb j i ≡ b → Stops P p j
+      go true e = h .stops P p q w v j (ltb-true j i e)
+      go false e = (No.thread, on-none (step P) p j (omega (arith, ltb-false j i e, pool-counted P p w v)))
 
-  module _ (P : Program) (p : Pool) (q : Places s P places) (w : ws ≡ wordsOf p) (v : isPool P p ≡ true) (l : i < threadsIn ws) where
-    this : Around p i
-    this = around p i (omega (arith, pool-counted P p w v))
-
-    pub goes-made : Room ws i (d .effect) → goesOn (d .effect) ≡ true → Goes P p i
-    goes-made o y =
-        let h = known-at P p w v q this in
-        let m = makes ws i (this .front) (this .thread) (this .back) (h .thread) d (d .effect) o y in
-        (m .0, m .1, step-is P p q w v this ∙ m .2)
-
-    pub goes-refused : goesOn (d .effect) ≡ false → Stops P p i
-    goes-refused y =
-        let h = known-at P p w v q this in
-        let m = refuses ws i (this .front) (this .thread) (this .back) (h .thread) d (d .effect) y in
-        (m .0, step-is P p q w v this ∙ m .1)
-
--- the threads up to i do not step
-abbrev pub Idle : List ℕ → List ℕ → List ℤ → ℕ → Type 0
-Idle s places ws i =
-    (P : Program) (p : Pool) → Places s P places → ws ≡ wordsOf p → isPool P p ≡ true → (j : ℕ) → j < i → Stops P p j
-
-pub idle-none : (s places : List ℕ) (ws : List ℤ) → Idle s places ws 0
-idle-none s places ws P p q w v j l = absurd (omega arith)
-
-pub idle-more : (s places : List ℕ) (ws : List ℤ) (i : ℕ) (d : Decided) → DecidesAt s places ws i d → i < threadsIn ws → goesOn (d .effect) ≡ false
-    → Idle s places ws i → Idle s places ws (i + 1)
-idle-more s places ws i d f l y h P p q w v j o = go (ltb j i) refl
-  where
-    go : (b : Bool) → ltb j i ≡ b → Stops P p j
-    go true e = h P p q w v j (ltb-true j i e)
-    go false e =
-        let z : i ≡ j = omega (arith, ltb-false j i e) in
-        subst (Stops P p) z (goes-refused s places ws i d f P p q w v l y)
-
-pub idle-all : (s places : List ℕ) (ws : List ℤ) (n : ℕ) → Idle s places ws n → n ≡ threadsIn ws
-    → (P : Program) (p : Pool) → Places s P places → ws ≡ wordsOf p → isPool P p ≡ true → (j : ℕ) → Stops P p j
-unfolding choice
-idle-all s places ws n h c P p q w v j = go (ltb j n) refl
-  where
-    go : (b : Bool) → ltb j n ≡ b → Stops P p j
-    go true e = h P p q w v j (ltb-true j n e)
-    go false e = (No.thread, on-none (step P) p j (omega (arith, ltb-false j n e, pool-counted P p w v)))
+-- what is found in a copy
+pub copy-finds : {s places : List ℕ} {ws c : List ℤ} (d : List ℤ) (r : Stepper) → length d ≡ length ws → c ≡ pasted d 0 ws → FindsStepper s places c r → FindsStepper s places ws r
+copy-finds {s} {places} {ws} d r l e f = subst (λ (w : List ℤ). FindsStepper s places w r) (e ∙ paste-all d ws l) f

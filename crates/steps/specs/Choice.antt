@@ -1,33 +1,32 @@
 -- What the code decides and answers, in the model's terms, and the contracts: for every program that the places belong to, and
 -- every valid pool that the words hold.
-use Prim.Native.Nat.{ℕ, _+_, _≤_, _<_}
+use Prim.Native.Nat.{ℕ, _+_, _-_, _≤_, _<_}
 use mathlib.Core.Path.{_≡_}
 use mathlib.Core.Bool.{Bool, true, false}
-use mathlib.Core.Option.{none, some}
-use mathlib.Core.List.{List, _∷_, _++_}
+use mathlib.Core.Option.{some}
+use mathlib.Core.List.{List, [], _∷_, _++_}
 use lib.Dec.{ltb}
 use lib.IntN.{ℤ}
-use lib.ListN.{length, getElem?}
+use lib.ListN.{length, getElem?, take}
 use Rattle.model.specs.Lists.{Each}
 use Rattle.model.specs.Syntax.{Program}
 use Rattle.model.specs.Answers.{Refusal, Answer}
-use Rattle.model.specs.Pool as Pool
-use Rattle.model.specs.Pool.{Thread, Pool, mostFrames, mostThreads, frames, wordsOf, isPool, arePool}
+use Rattle.model.specs.Pool.{Frame, Thread, Pool, mostFrames, mostThreads, frames, wordsOf, isPool, arePool}
 use Rattle.model.specs.Rules.{Act, Result, act, ended, promote, choice}
 use Rattle.model.specs.Rules as Rules
 use Rattle.model.specs.Calls.{Called, made}
 use Rattle.model.proofs.Valid.{IsPool}
 use Rattle.places.specs.Places.{Places}
-use Rattle.frames.specs.declared.Frame.{Frame}
-use Rattle.frames.specs.Frame.{modelOf}
+use Rattle.frames.specs.Frame.{Small}
 use Rattle.frames.specs.Held.{Held, ThreadAt, FrameAt}
-use Rattle.frames.specs.Edits.{threadsIn, framesIn}
-use Rattle.eval.specs.declared.Values.{Values}
 use Rattle.eval.specs.declared.Looked.{Looked}
-use Rattle.eval.specs.Given.{valuesOf, lookedOf}
-use Rattle.steps.specs.declared.Effect.{Effect}
-use Rattle.steps.specs.declared.Effect.the-variants.{Refuse, Replace, Push, Pop, Join}
-use Rattle.steps.specs.declared.Decided.{Decided}
+use Rattle.eval.specs.Given.{lookedOf}
+use Rattle.eval.specs.Code.{most}
+use Rattle.rules.specs.declared.Acted.{Acted}
+use Rattle.rules.specs.declared.Ended.{Ended}
+use Rattle.rules.specs.declared.Does.{Does}
+use Rattle.rules.specs.declared.Does.the-variants.{Refuse, Bind, Enter, Open, Close, Push, Pop, Join}
+use Rattle.rules.specs.Acts.{arrived, closed, actBy, soundBy, Parameters, Is, givenBy, fewBy}
 use Rattle.steps.specs.declared.Made.{Made}
 use Rattle.steps.specs.declared.Made.the-variants.{Rule, Refused}
 use Rattle.steps.specs.declared.Stepper.{Stepper}
@@ -35,29 +34,44 @@ use Rattle.steps.specs.declared.Stepper.the-variants as Found
 use Rattle.steps.specs.declared.Unpromoted.{Unpromoted}
 use Rattle.steps.specs.Decision.{Decision, effected, Decides, before}
 
--- what was decided
-abbrev pub decisionBy : Effect → Decided → Decision
-decisionBy (Refuse n) d = Decision.refuse n
-decisionBy (Replace rule) d = Decision.replace rule (modelOf (d .frame))
-decisionBy Push d = Decision.push (modelOf (d .frame)) (modelOf (d .callee))
-decisionBy Pop d = Decision.pop (modelOf (d .frame))
-decisionBy Join d = Decision.join (modelOf (d .frame))
+-- the frame below the newest; the newest, where there is none
+abbrev pub callerIn : Frame → List Frame → Frame
+callerIn k [] = k
+callerIn k (l ∷ K) = l
 
-abbrev pub decisionOf : Decided → Decision
-decisionOf d = decisionBy (d .effect) d
+abbrev pub callerOf : Thread → Frame
+callerOf t = callerIn (t .newest) (t .older)
+
+-- the frame that goes on after a return and after a join
+abbrev pub goesOnAs : Does → Thread → Frame
+goesOnAs (Refuse n) t = t .newest
+goesOnAs (Bind x) t = t .newest
+goesOnAs (Enter rule) t = t .newest
+goesOnAs (Open π) t = t .newest
+goesOnAs Close t = t .newest
+goesOnAs (Push g) t = t .newest
+goesOnAs Pop t = callerOf t
+goesOnAs (Join c) t = closed (t .newest) (t .newest .promoted - 1)
+
+-- what an act comes to, where k goes on after a return and after a join
+abbrev pub decided : Frame → Act → Decision
+decided k (Act.refuse n) = Decision.refuse n
+decided k (Act.stay rule m) = Decision.replace rule m
+decided k (Act.push m l) = Decision.push m l
+decided k (Act.pop v̄) = Decision.pop k
+decided k (Act.join m c) = Decision.join k
+
+-- the decision of an act of thread t
+abbrev pub decisionBy : Does → List ℕ → Thread → Acted → List ℤ → Decision
+decisionBy e s t d out = decided (arrived s d out (goesOnAs e t)) (actBy e s (t .newest) d out)
+
+abbrev pub decisionOf : List ℕ → Thread → Acted → List ℤ → Decision
+decisionOf s t d out = decisionBy (d .does) s t d out
 
 -- the answer to a choice: the rule, or document 01's number
 abbrev pub answerOf : Made → Answer ℕ
 answerOf (Rule rule) = Answer.given rule
 answerOf (Refused n) = Answer.refused (Refusal.plain n)
-
--- the words have room for it: for a frame more, a frame less, a thread less
-abbrev pub Room : List ℤ → ℕ → Effect → Type 0
-Room ws i (Refuse n) = Unit {0}
-Room ws i (Replace rule) = Unit {0}
-Room ws i Push = framesIn ws i < mostFrames
-Room ws i Pop = 1 < framesIn ws i
-Room ws i Join = i + 1 < threadsIn ws
 
 -- what is known: the places are the program's, the words hold a valid pool of it, and t is thread i
 pub record Known (s places : List ℕ) (ws : List ℤ) (i : ℕ) (P : Program) (a : Pool) (t : Thread) (b : Pool) : Type 0 where
@@ -65,29 +79,54 @@ pub record Known (s places : List ℕ) (ws : List ℤ) (i : ℕ) (P : Program) (
   pub thread : ThreadAt ws i a t b
   pub valid : IsPool P (a ++ t ∷ b)
 
--- thread i is ended, with these values
+-- thread i is ended, with these values; with so many of a buffer
 abbrev pub Ends : List ℕ → List ℕ → List ℤ → ℕ → Looked → Type 0
 Ends s places ws i r = (P : Program) (a : Pool) (t : Thread) (b : Pool) → Known s places ws i P a t b → lookedOf r ≡ ended P t
 
--- thread i: its newest frame calls, returns values, waits at a promoted spoin, does anything
-abbrev pub Calls : List ℕ → List ℕ → List ℤ → ℕ → Frame → Frame → Decided → Type 0
-Calls s places ws i k l r =
-    (P : Program) (a : Pool) (t : Thread) (b : Pool) → Known s places ws i P a t b
-    → act P (t .newest) ≡ Act.push (modelOf k) (modelOf l) → Decides P t b (decisionOf r)
+-- what a thread gives, with its values in a buffer
+pub record Brought (P : Program) (t : Thread) (out : List ℤ) (r : Ended) : Type 0 where
+  pub is : givenBy r out ≡ ended P t
+  pub few : fewBy r
 
-abbrev pub Returns : List ℕ → List ℕ → List ℤ → ℕ → Values → Decided → Type 0
-Returns s places ws i v r =
-    (P : Program) (a : Pool) (t : Thread) (b : Pool) → Known s places ws i P a t b
-    → act P (t .newest) ≡ Act.pop (valuesOf v) → Decides P t b (decisionOf r)
+abbrev pub Brings : List ℕ → List ℕ → List ℤ → ℕ → List ℤ → Ended → Type 0
+Brings s places ws i out r =
+    (P : Program) (a : Pool) (t : Thread) (b : Pool) → Known s places ws i P a t b → Brought P t out r
 
-abbrev pub Joins : List ℕ → List ℕ → List ℤ → ℕ → Frame → ℕ → Decided → Type 0
-Joins s places ws i k c r =
-    (P : Program) (a : Pool) (t : Thread) (b : Pool) → Known s places ws i P a t b
-    → act P (t .newest) ≡ Act.join (modelOf k) c → Decides P t b (decisionOf r)
+-- what writing a decision of thread t rests on
+abbrev pub soundIn : Does → List ℕ → Thread → Pool → Acted → Type 0
+soundIn (Refuse n) s t b d = Unit {0}
+soundIn (Bind x) s t b d = soundBy (Bind x) s (t .newest) d
+soundIn (Enter rule) s t b d = soundBy (Enter rule) s (t .newest) d
+soundIn (Open π) s t b d = soundBy (Open π) s (t .newest) d
+soundIn Close s t b d = soundBy Close s (t .newest) d
+soundIn (Push g) s t b d = length (frames t) < mostFrames
+soundIn Pop s t b d = Parameters s (d .parameters) (d .count) × (0 < length (t .older))
+soundIn (Join c) s t b d = Parameters s (d .parameters) (d .count) × soundBy (Join c) s (t .newest) d × (0 < length b)
 
-abbrev pub DecidesAt : List ℕ → List ℕ → List ℤ → ℕ → Decided → Type 0
-DecidesAt s places ws i r =
-    (P : Program) (a : Pool) (t : Thread) (b : Pool) → Known s places ws i P a t b → Decides P t b (decisionOf r)
+-- the act d is decided for thread t
+pub record Decided (P : Program) (s : List ℕ) (t : Thread) (b : Pool) (out : List ℤ) (d : Acted) : Type 0 where
+  pub is : Decides P t b (decisionOf s t d out)
+  pub sound : soundIn (d .does) s t b d
+
+-- thread i: its newest frame calls, returns n values, waits at a promoted spoin, does anything
+abbrev pub Calls : List ℤ → ℕ → Acted → Acted → Type 0
+Calls ws i d r =
+    (s : List ℕ) (P : Program) (a : Pool) (t : Thread) (b : Pool) → ThreadAt ws i a t b → (out : List ℤ) → Is s (t .newest) out d (act P (t .newest))
+    → (g : ℕ) → d .does ≡ Push g → Decided P s t b out r
+
+abbrev pub Returns : List ℕ → List ℕ → List ℤ → ℕ → ℕ → Acted → Type 0
+Returns s places ws i n r =
+    (P : Program) (a : Pool) (t : Thread) (b : Pool) → Known s places ws i P a t b → (out : List ℤ) → length out ≡ most → n ≤ most
+    → act P (t .newest) ≡ Act.pop (take n out) → Decided P s t b out r
+
+abbrev pub Joins : List ℕ → List ℕ → List ℤ → ℕ → ℕ → ℕ → List ℤ → Acted → Type 0
+Joins s places ws i f c out r =
+    (P : Program) (a : Pool) (t : Thread) (b : Pool) → Known s places ws i P a t b → f ≡ t .newest .function
+    → act P (t .newest) ≡ Act.join (closed (t .newest) (t .newest .promoted - 1)) c → soundBy (Join c) s (t .newest) r → Decided P s t b out r
+
+abbrev pub DecidesAt : List ℕ → List ℕ → List ℤ → ℕ → List ℤ → Acted → Type 0
+DecidesAt s places ws i out r =
+    (P : Program) (a : Pool) (t : Thread) (b : Pool) → Known s places ws i P a t b → Decided P s t b out r
 
 -- a step makes a rule, or is refused
 abbrev pub Goes : Program → Pool → ℕ → Type 0
@@ -96,12 +135,14 @@ Goes P p i = (rule : ℕ) × (p′ : Pool) × (choice P p 0 i ≡ Result.made ru
 abbrev pub Stops : Program → Pool → ℕ → Type 0
 Stops P p i = (n : ℕ) × (choice P p 0 i ≡ Result.refused n)
 
-abbrev pub goesOn : Effect → Bool
-goesOn (Refuse n) = false
-goesOn (Replace rule) = true
-goesOn Push = true
-goesOn Pop = true
-goesOn Join = true
+-- a step tried: it makes a rule, or is refused, and then the words are as they were
+abbrev pub Tried : Program → Pool → List ℤ → ℕ → Bool → List ℤ → Type 0
+Tried P p ws i true ws′ = Goes P p i
+Tried P p ws i false ws′ = Stops P p i × (ws′ ≡ ws)
+
+abbrev pub Tries : List ℕ → List ℕ → List ℤ → ℕ → Bool → List ℤ → Type 0
+Tries s places ws i r ws′ =
+    (P : Program) (p : Pool) → Places s P places → ws ≡ wordsOf p → isPool P p ≡ true → Tried P p ws i r ws′
 
 -- the thread that was found steps; where none was found none does
 abbrev pub Finds : Program → Pool → Stepper → Type 0
@@ -117,28 +158,35 @@ abbrev pub Comes : List ℤ → Result → Made → List ℤ → Type 0
 Comes ws (Result.made rule p) r ws′ = (r ≡ Rule rule) × Held ws′ p
 Comes ws (Result.refused n) r ws′ = (r ≡ Refused n) × (ws′ ≡ ws)
 
-abbrev pub Applied : List ℤ → ℕ → Decided → Made → List ℤ → Type 0
-Applied ws i d r ws′ =
-    (a : Pool) (t : Thread) (b : Pool) → ThreadAt ws i a t b → Comes ws (before a (effected (t .older) b (decisionOf d))) r ws′
+-- thread i is there, its frames are small, and the act d can be done
+pub record Ready (s : List ℕ) (ws : List ℤ) (i : ℕ) (a : Pool) (t : Thread) (b : Pool) (d : Acted) : Type 0 where
+  pub thread : ThreadAt ws i a t b
+  pub small : Each Small (frames t)
+  pub sound : soundIn (d .does) s t b d
+
+abbrev pub Applied : List ℕ → List ℤ → ℕ → Acted → List ℤ → Made → List ℤ → Type 0
+Applied s ws i d out r ws′ =
+    (a : Pool) (t : Thread) (b : Pool) → Ready s ws i a t b d → Comes ws (before a (effected (t .older) b (decisionOf s t d out))) r ws′
 
 abbrev pub Steps : List ℕ → List ℕ → List ℤ → ℕ → Made → List ℤ → Type 0
 Steps s places ws i r ws′ =
     (P : Program) (a : Pool) (t : Thread) (b : Pool) → Known s places ws i P a t b → Comes ws (before a (Rules.step P t b)) r ws′
 
 -- a frame with nothing unpromoted
-abbrev pub Done : Pool.Frame → Type 0
+abbrev pub Done : Frame → Type 0
 Done k = length (k .calls) ≤ k .promoted
 
 -- the oldest frame that holds an unpromoted call, and the call
-pub record Holder (t : Thread) (j : ℕ) (k : Pool.Frame) (π : ℕ) : Type 0 where
-  pub newer : List Pool.Frame
-  pub older : List Pool.Frame
-  pub at : FrameAt t j newer k older
+pub record Holder (t : Thread) (j π : ℕ) : Type 0 where
+  pub frame : Frame
+  pub newer : List Frame
+  pub older : List Frame
+  pub at : FrameAt t j newer frame older
   pub done : Each Done older
-  pub call : getElem? (k .calls) (k .promoted) ≡ some π
+  pub call : getElem? (frame .calls) (frame .promoted) ≡ some π
 
 abbrev pub HolderOf : Thread → Bool → Unpromoted → Type 0
-HolderOf t true r = Holder t (r .frame) (modelOf (r .holder)) (r .call)
+HolderOf t true r = Holder t (r .frame) (r .call)
 HolderOf t false r = Each Done (frames t)
 
 abbrev pub FindsOldest : List ℤ → ℕ → Unpromoted → Type 0

@@ -1,31 +1,21 @@
-// One choice, in place, of a pool that is known to be valid: what a step would do is decided first, then written.
+// One choice, in place, of a pool that is known to be valid: what a step would do is decided first, then written. Values that are
+// passed on stand in one buffer.
 use eval::Looked;
 use eval::Values;
-use frames::Frame;
 use frames::Pool;
+use rules::Acted;
 use rules::Does;
+use rules::Ended;
+use rules::Number;
 ghost use mathlib.Core.Path.{_≡_};
-ghost use Prim.Native.Nat.{_<_};
+ghost use Prim.Native.Nat.{_+_, _<_, _≤_};
 ghost use lib.ListN.{length};
-ghost use Rattle.model.specs.Pool.{mostFrames, mostThreads, poolWords};
+ghost use Rattle.model.specs.Pool.{frameWords, mostFrames, mostThreads, poolWords};
 ghost use Rattle.frames.specs.Edits.{threadsIn};
-ghost use Rattle.steps.specs.Choice.{Room, Ends, Calls, Returns, Joins, DecidesAt, Applied, Steps, goesOn, FindsStepper, FindsOldest, Promotes, Chooses};
-
-// What a step would do: it is refused; the newest frame is `frame`, by a rule; `frame` waits for `callee`; the newest frame goes,
-// and `frame` stands for its caller; the thread directly behind goes, and the newest frame is `frame`.
-pub enum Effect {
-    Refuse(u8),
-    Replace(u8),
-    Push,
-    Pop,
-    Join,
-}
-
-pub struct Decided {
-    pub effect: Effect,
-    pub frame: Frame,
-    pub callee: Frame,
-}
+ghost use Rattle.frames.specs.InPlace.{newestAt};
+ghost use Rattle.eval.specs.Code.{most};
+ghost use Rattle.steps.specs.Choice.{Ends, Brings, Calls, Returns, Joins, DecidesAt, Applied, Steps, Tries, FindsStepper, FindsOldest, Promotes, Chooses};
+ghost use Rattle.steps.specs.Writes.{Sets, Arrives, Opens, Closes, Shuts, Pushes, Pops, Unites, Spawned};
 
 // The rule by which a choice was made, or its refusal.
 pub enum Made {
@@ -33,11 +23,10 @@ pub enum Made {
     Refused(u8),
 }
 
-// The oldest frame with an unpromoted call, by number and by value, and the call; or none.
+// The oldest frame with an unpromoted call, by number, and the call; or none.
 pub struct Unpromoted {
     pub ok: bool,
     pub frame: usize,
-    pub holder: Frame,
     pub call: u8,
 }
 
@@ -47,212 +36,237 @@ pub enum Stepper {
     Nobody,
 }
 
-fn refuse(k: Frame, n: u8) -> Decided
-    ensures { λ r. ⌜ r .effect ≡ Effect.Refuse n ⌝ }
+// How many values thread i gives, in a buffer, if it is ended: its one frame returns.
+fn returned(s: &[u8], places: &[u16; 656], ws: &[i32], i: usize, out: &mut [i32]) -> Ended
+    requires { ⌜ (length (now ws) ≡ poolWords) × (i < mostThreads) × (length (now out) ≡ most) ⌝ }
+    ensures { λ r. ⌜ Brings (now (s .entry)) (now (places .entry)) (now (ws .entry)) i (now (out .exit)) r ⌝ }
 {
-    Decided {
-        effect: Effect::Refuse(n),
-        frame: k,
-        callee: k,
+    if frames::frame_count(ws, i) != 1 {
+        return Ended::Runs;
     }
+    let k = frames::thread_start(i) + 1;
+    rules::giving(s, places, ws, k, out)
 }
 
-// The values of thread i, if it is ended: its one frame returns.
+// The values of thread i, if it is ended.
 pub fn ended(s: &[u8], places: &[u16; 656], ws: &[i32], i: usize) -> Looked
     requires { ⌜ (length (now ws) ≡ poolWords) × (i < mostThreads) ⌝ }
     ensures { λ r. ⌜ Ends (now (s .entry)) (now (places .entry)) (now (ws .entry)) i r ⌝ }
 {
-    let a = rules::act(s, places, frames::newest(ws, i));
-    let does = a.does;
-    let v = a.values;
-    match does {
-        Does::Pop => {
-            if frames::frame_count(ws, i) == 1 {
-                Looked {
-                    ok: true,
-                    values: v,
-                }
-            } else {
-                Looked {
-                    ok: false,
-                    values: v,
-                }
-            }
-        }
-        Does::Refuse(_) => Looked {
-            ok: false,
-            values: v,
+    let mut out = [0i32; 8];
+    let r = returned(s, places, ws, i, &mut out);
+    match r {
+        Ended::Gives(n) => Looked {
+            ok: true,
+            values: Values { count: n, at: out },
         },
-        Does::Stay(_) => Looked {
+        Ended::Runs => Looked {
             ok: false,
-            values: v,
-        },
-        Does::Push => Looked {
-            ok: false,
-            values: v,
-        },
-        Does::Join(_) => Looked {
-            ok: false,
-            values: v,
+            values: Values { count: 0, at: out },
         },
     }
 }
 
 // A call: 18 where all frames are in use.
-fn calling(s: &[u8], places: &[u16; 656], ws: &[i32], i: usize, k: Frame, l: Frame) -> Decided
+fn calling(ws: &[i32], i: usize, a: Acted) -> Acted
     requires { ⌜ (length (now ws) ≡ poolWords) × (i < mostThreads) ⌝ }
-    ensures room { λ r. ⌜ Room (now (ws .entry)) i (r .effect) ⌝ }
-    ensures decides { λ r. ⌜ Calls (now (s .entry)) (now (places .entry)) (now (ws .entry)) i k l r ⌝ }
+    ensures { λ r. ⌜ Calls (now (ws .entry)) i a r ⌝ }
 {
     if frames::frame_count(ws, i) < Pool::FRAMES {
-        Decided {
-            effect: Effect::Push,
-            frame: k,
-            callee: l,
-        }
+        a
     } else {
-        refuse(k, 18)
+        rules::refuse(18)
     }
 }
 
-// A return of values: to the frame below, at the block where it waits. With no frame below the thread is ended: 16.
-fn returning(s: &[u8], places: &[u16; 656], ws: &[i32], i: usize, v: Values) -> Decided
-    requires { ⌜ (length (now ws) ≡ poolWords) × (i < mostThreads) ⌝ }
-    ensures room { λ r. ⌜ Room (now (ws .entry)) i (r .effect) ⌝ }
-    ensures decides { λ r. ⌜ Returns (now (s .entry)) (now (places .entry)) (now (ws .entry)) i v r ⌝ }
+// A return of n values, by the newest frame, at k: to the frame below, at the block where it waits. With no frame below the thread
+// is ended: 16.
+fn returning(s: &[u8], places: &[u16; 656], ws: &[i32], i: usize, k: usize, n: u8) -> Acted
+    requires { ⌜ (length (now ws) ≡ poolWords) × (i < mostThreads) × (k ≡ newestAt (now ws) i) ⌝ }
+    ensures { λ r. ⌜ Returns (now (s .entry)) (now (places .entry)) (now (ws .entry)) i n r ⌝ }
 {
-    let n = frames::frame_count(ws, i);
-    if n < 2 {
-        return refuse(Pool::empty_frame(), 16);
+    if frames::frame_count(ws, i) < 2 {
+        return rules::refuse(16);
     }
-    let k = frames::frame_at(ws, i, n - 2);
-    let e = rules::enter(s, places, k, k.block, v);
-    let f = e.frame;
-    if e.ok {
-        Decided {
-            effect: Effect::Pop,
-            frame: f,
-            callee: f,
-        }
-    } else {
-        refuse(f, 19)
-    }
+    let l = k - Pool::FRAME_WORDS;
+    let f = frames::function(ws, l);
+    let b = frames::block(ws, l);
+    rules::enter(s, places, f, b, n, Does::Pop)
 }
 
 // A promoted spoin, with block c behind it: the newest child stands directly behind its parent. 17 where it is not ended.
-fn joining(s: &[u8], places: &[u16; 656], ws: &[i32], i: usize, k: Frame, c: u8) -> Decided
-    requires { ⌜ (length (now ws) ≡ poolWords) × (i < mostThreads) ⌝ }
-    ensures room { λ r. ⌜ Room (now (ws .entry)) i (r .effect) ⌝ }
-    ensures decides { λ r. ⌜ Joins (now (s .entry)) (now (places .entry)) (now (ws .entry)) i k c r ⌝ }
+fn joining(
+    s: &[u8],
+    places: &[u16; 656],
+    ws: &[i32],
+    i: usize,
+    f: u8,
+    c: u8,
+    out: &mut [i32],
+) -> Acted
+    requires { ⌜ (length (now ws) ≡ poolWords) × (i < mostThreads) × (length (now out) ≡ most) ⌝ }
+    ensures { λ r. ⌜ Joins (now (s .entry)) (now (places .entry)) (now (ws .entry)) i f c (now (out .exit)) r ⌝ }
 {
-    if frames::thread_count(ws) <= i + 1 {
-        return refuse(k, 17);
+    let m = frames::thread_count(ws);
+    if m <= i + 1 {
+        return rules::refuse(17);
     }
-    let l = ended(s, places, ws, i + 1);
-    if !l.ok {
-        return refuse(k, 17);
-    }
-    let v = l.values;
-    let e = rules::enter(s, places, k, c, v);
-    let f = e.frame;
-    if e.ok {
-        Decided {
-            effect: Effect::Join,
-            frame: f,
-            callee: f,
-        }
-    } else {
-        refuse(f, 19)
+    let r = returned(s, places, ws, i + 1, out);
+    match r {
+        Ended::Gives(n) => rules::enter(s, places, f, c, n, Does::Join(c)),
+        Ended::Runs => rules::refuse(17),
     }
 }
 
-// What a step of thread i would do. Nothing is written.
-pub fn decide(s: &[u8], places: &[u16; 656], ws: &[i32], i: usize) -> Decided
-    requires { ⌜ (length (now ws) ≡ poolWords) × (i < mostThreads) ⌝ }
-    ensures room { λ r. ⌜ Room (now (ws .entry)) i (r .effect) ⌝ }
-    ensures decides { λ r. ⌜ DecidesAt (now (s .entry)) (now (places .entry)) (now (ws .entry)) i r ⌝ }
+// What a step of thread i would do, whose newest frame is at k. Nothing is written.
+fn decide(s: &[u8], places: &[u16; 656], ws: &[i32], i: usize, k: usize, out: &mut [i32]) -> Acted
+    requires { ⌜ (length (now ws) ≡ poolWords) × (i < mostThreads) × (k ≡ newestAt (now ws) i) × (length (now out) ≡ most) ⌝ }
+    ensures { λ r. ⌜ DecidesAt (now (s .entry)) (now (places .entry)) (now (ws .entry)) i (now (out .exit)) r ⌝ }
 {
-    let a = rules::act(s, places, frames::newest(ws, i));
+    let a = rules::act(s, places, ws, k, out);
     let does = a.does;
-    let k = a.frame;
     match does {
-        Does::Refuse(n) => refuse(k, n),
-        Does::Stay(rule) => Decided {
-            effect: Effect::Replace(rule),
-            frame: k,
-            callee: k,
-        },
-        Does::Push => calling(s, places, ws, i, k, a.callee),
-        Does::Pop => returning(s, places, ws, i, a.values),
-        Does::Join(c) => joining(s, places, ws, i, k, c),
+        Does::Push(_) => calling(ws, i, a),
+        Does::Pop => returning(s, places, ws, i, k, a.count),
+        Does::Join(c) => joining(s, places, ws, i, frames::function(ws, k), c, out),
+        _ => a,
     }
 }
 
-// Is it a rule?
-fn goes(d: Decided) -> bool
-    ensures { λ r. ⌜ r ≡ goesOn (d .effect) ⌝ }
+// The frame at k has a temporary bound, and is at its next statement.
+fn set(ws: &mut [i32], k: usize, x: u8, v: i32)
+    requires { ⌜ k + frameWords ≤ length (now ws) ⌝ }
+    ensures { λ _. ⌜ Sets (now (ws .entry)) k x v (now (ws .exit)) ⌝ }
 {
-    let effect = d.effect;
-    match effect {
-        Effect::Refuse(_) => false,
-        Effect::Replace(_) => true,
-        Effect::Push => true,
-        Effect::Pop => true,
-        Effect::Join => true,
+    frames::advance(ws, k);
+    eval::bind(ws, k, x, v);
+}
+
+// The frame at k is at the head of block b, with values of the buffer for the parameters that stand at an offset.
+fn arrive(s: &[u8], ws: &mut [i32], k: usize, b: u8, parameters: usize, out: &[i32])
+    requires { ⌜ (k + frameWords ≤ length (now ws)) × (length (now out) ≡ most) ⌝ }
+    ensures { λ _. ⌜ Arrives (now (s .entry)) (now (ws .entry)) k b parameters (now (out .entry)) (now (ws .exit)) ⌝ }
+{
+    frames::jump(ws, k, b, 0);
+    eval::bind_all(s, parameters, ws, k, out);
+}
+
+// The frame at k has one more call open, and is at the head of block b.
+fn open_one(ws: &mut [i32], k: usize, call: u8, b: u8)
+    requires { ⌜ k + frameWords ≤ length (now ws) ⌝ }
+    ensures { λ _. ⌜ Opens (now (ws .entry)) k call b (now (ws .exit)) ⌝ }
+{
+    let n = frames::opened(ws, k);
+    if n < 4 {
+        frames::open_call(ws, k, n, call);
+        frames::jump(ws, k, b, 0);
     }
 }
 
-// The first thread that can step. Nothing is written.
-pub fn can_step(s: &[u8], places: &[u16; 656], ws: &[i32]) -> Stepper
-    requires { ⌜ length (now ws) ≡ poolWords ⌝ }
-    ensures { λ r. ⌜ FindsStepper (now (s .entry)) (now (places .entry)) (now (ws .entry)) r ⌝ }
+// The frame at k has its last call closed, and so many of its promoted ones joined.
+fn close_last(ws: &mut [i32], k: usize, joined: u8)
+    requires { ⌜ k + frameWords ≤ length (now ws) ⌝ }
+    ensures { λ _. ⌜ Closes (now (ws .entry)) k joined (now (ws .exit)) ⌝ }
 {
-    let n = frames::thread_count(ws);
-    let mut i = 0;
-    while i < n {
-        if goes(decide(s, places, ws, i)) {
-            return Stepper::Thread(i);
+    let n = frames::opened(ws, k);
+    let p = frames::promoted(ws, k);
+    if 0 < n {
+        if joined <= p {
+            frames::close_call(ws, k, n - 1, p - joined);
         }
-        i += 1;
     }
-    Stepper::Nobody
 }
 
-// What was decided is done.
-pub fn apply(ws: &mut [i32], i: usize, d: Decided) -> Made
-    requires { ⌜ (length (now ws) ≡ poolWords) × (i < mostThreads) × (Room (now ws) i (d .effect)) ⌝ }
-    ensures { λ r. ⌜ Applied (now (ws .entry)) i d r (now (ws .exit)) ⌝ }
+// The frame at k has its last call closed, which is not promoted, and is at the head of block b.
+fn shut(ws: &mut [i32], k: usize, b: u8)
+    requires { ⌜ k + frameWords ≤ length (now ws) ⌝ }
+    ensures { λ _. ⌜ Shuts (now (ws .entry)) k b (now (ws .exit)) ⌝ }
 {
-    let effect = d.effect;
-    let k = d.frame;
-    match effect {
-        Effect::Refuse(n) => Made::Refused(n),
-        Effect::Replace(rule) => {
-            frames::replace_newest(ws, i, k);
+    close_last(ws, k, 0);
+    frames::jump(ws, k, b, 0);
+}
+
+// The newest frame of thread i, at k, waits at block b for function g, with n values of the buffer.
+fn push(ws: &mut [i32], i: usize, k: usize, g: u8, n: u8, b: u8, out: &[i32])
+    requires { ⌜ (length (now ws) ≡ poolWords) × (i < mostThreads) × (k ≡ newestAt (now ws) i) × (length (now out) ≡ most) ⌝ }
+    ensures { λ _. ⌜ Pushes (now (ws .entry)) i g n b (now (out .entry)) (now (ws .exit)) ⌝ }
+{
+    if frames::frame_count(ws, i) < Pool::FRAMES {
+        frames::push_frame(ws, i, k, rules::begin(g, n, out));
+        frames::jump(ws, k, b, 0);
+    }
+}
+
+// The newest frame of thread i, at k, goes, and the one below arrives at block b.
+fn pop(s: &[u8], ws: &mut [i32], i: usize, k: usize, b: u8, parameters: usize, out: &[i32])
+    requires { ⌜ (length (now ws) ≡ poolWords) × (i < mostThreads) × (k ≡ newestAt (now ws) i) × (length (now out) ≡ most) ⌝ }
+    ensures { λ _. ⌜ Pops (now (s .entry)) (now (ws .entry)) i b parameters (now (out .entry)) (now (ws .exit)) ⌝ }
+{
+    if 1 < frames::frame_count(ws, i) {
+        frames::pop_frame(ws, i, k);
+        arrive(s, ws, k - Pool::FRAME_WORDS, b, parameters, out);
+    }
+}
+
+// The thread directly behind thread i goes, and the newest frame, at k, arrives at block b with its last call closed.
+fn unite(s: &[u8], ws: &mut [i32], i: usize, k: usize, b: u8, parameters: usize, out: &[i32])
+    requires { ⌜ (length (now ws) ≡ poolWords) × (i < mostThreads) × (k ≡ newestAt (now ws) i) × (length (now out) ≡ most) ⌝ }
+    ensures { λ _. ⌜ Unites (now (s .entry)) (now (ws .entry)) i b parameters (now (out .entry)) (now (ws .exit)) ⌝ }
+{
+    if i + 1 < frames::thread_count(ws) {
+        frames::remove_thread(ws, i);
+        close_last(ws, k, 1);
+        arrive(s, ws, k, b, parameters, out);
+    }
+}
+
+// What was decided for thread i, whose newest frame is at k, is done.
+fn apply(s: &[u8], ws: &mut [i32], i: usize, k: usize, d: Acted, out: &[i32]) -> Made
+    requires { ⌜ (length (now ws) ≡ poolWords) × (i < mostThreads) × (k ≡ newestAt (now ws) i) × (length (now out) ≡ most) ⌝ }
+    ensures { λ r. ⌜ Applied (now (s .entry)) (now (ws .entry)) i d (now (out .entry)) r (now (ws .exit)) ⌝ }
+{
+    let does = d.does;
+    match does {
+        Does::Refuse(n) => Made::Refused(n),
+        Does::Bind(x) => {
+            set(ws, k, x, d.value);
+            Made::Rule(Number::STMT)
+        }
+        Does::Enter(rule) => {
+            arrive(s, ws, k, d.block, d.parameters, out);
             Made::Rule(rule)
         }
-        Effect::Push => {
-            frames::push_frame(ws, i, k, d.callee);
-            Made::Rule(5)
+        Does::Open(call) => {
+            open_one(ws, k, call, d.block);
+            Made::Rule(Number::SPORK)
         }
-        Effect::Pop => {
-            frames::pop_frame(ws, i, k);
-            Made::Rule(6)
+        Does::Close => {
+            shut(ws, k, d.block);
+            Made::Rule(Number::UNPR)
         }
-        Effect::Join => {
-            frames::remove_thread(ws, i);
-            frames::replace_newest(ws, i, k);
-            Made::Rule(9)
+        Does::Push(g) => {
+            push(ws, i, k, g, d.count, d.block, out);
+            Made::Rule(Number::CALL)
+        }
+        Does::Pop => {
+            pop(s, ws, i, k, d.block, d.parameters, out);
+            Made::Rule(Number::RETURN)
+        }
+        Does::Join(_) => {
+            unite(s, ws, i, k, d.block, d.parameters, out);
+            Made::Rule(Number::PROM)
         }
     }
 }
 
-pub fn step(s: &[u8], places: &[u16; 656], ws: &mut [i32], i: usize) -> Made
+fn step(s: &[u8], places: &[u16; 656], ws: &mut [i32], i: usize) -> Made
     requires { ⌜ (length (now ws) ≡ poolWords) × (i < mostThreads) ⌝ }
     ensures { λ r. ⌜ Steps (now (s .entry)) (now (places .entry)) (now (ws .entry)) i r (now (ws .exit)) ⌝ }
 {
-    let d = decide(s, places, ws, i);
-    apply(ws, i, d)
+    let mut out = [0i32; 8];
+    let k = frames::newest_start(ws, i);
+    let d = decide(s, places, ws, i, k, &mut out);
+    apply(s, ws, i, k, d, &out)
 }
 
 // The oldest unpromoted call of thread i over all its frames.
@@ -261,17 +275,16 @@ fn oldest(ws: &[i32], i: usize) -> Unpromoted
     ensures within { λ r. ⌜ r .frame < mostFrames ⌝ }
     ensures finds { λ r. ⌜ FindsOldest (now (ws .entry)) i r ⌝ }
 {
-    let n = frames::frame_count(ws, i);
+    let newest = frames::frame_count(ws, i) - 1;
     let mut j = 0;
-    while j < n {
-        let k = frames::frame_at(ws, i, j);
-        let u = rules::unpromoted(k);
-        if u.ok {
+    while j <= newest {
+        let k = frames::frame_start(i, j);
+        let p = frames::promoted(ws, k);
+        if p < frames::opened(ws, k) {
             return Unpromoted {
                 ok: true,
                 frame: j,
-                holder: k,
-                call: u.call,
+                call: frames::call(ws, k, p),
             };
         }
         j += 1;
@@ -279,13 +292,21 @@ fn oldest(ws: &[i32], i: usize) -> Unpromoted
     Unpromoted {
         ok: false,
         frame: 0,
-        holder: Pool::empty_frame(),
         call: 0,
     }
 }
 
+// A thread of function g, with n values of the buffer, stands directly behind thread i, and a call of frame j is promoted.
+fn spawn(ws: &mut [i32], i: usize, j: usize, g: u8, n: u8, out: &[i32])
+    requires { ⌜ (length (now ws) ≡ poolWords) × (i < threadsIn (now ws)) × (threadsIn (now ws) < mostThreads) × (j < mostFrames) × (length (now out) ≡ most) ⌝ }
+    ensures { λ _. ⌜ Spawned (now (ws .entry)) i j g n (now (out .entry)) (now (ws .exit)) ⌝ }
+{
+    frames::add_thread(ws, i, rules::begin(g, n, out));
+    frames::promote_call(ws, i, j);
+}
+
 // The child stands directly behind its parent. 20 where nothing is unpromoted, 21 where all threads are in use, then 19.
-pub fn promote(s: &[u8], places: &[u16; 656], ws: &mut [i32], i: usize) -> Made
+fn promote(s: &[u8], places: &[u16; 656], ws: &mut [i32], i: usize) -> Made
     requires { ⌜ (length (now ws) ≡ poolWords) × (i < threadsIn (now ws)) ⌝ }
     ensures { λ r. ⌜ Promotes (now (s .entry)) (now (places .entry)) (now (ws .entry)) i r (now (ws .exit)) ⌝ }
 {
@@ -296,13 +317,17 @@ pub fn promote(s: &[u8], places: &[u16; 656], ws: &mut [i32], i: usize) -> Made
     if Pool::THREADS <= frames::thread_count(ws) {
         return Made::Refused(21);
     }
-    let e = rules::child(s, places, o.holder, o.call);
-    if !e.ok {
-        return Made::Refused(19);
+    let j = o.frame;
+    let mut out = [0i32; 8];
+    let a = rules::child(s, places, ws, frames::frame_start(i, j), o.call, &mut out);
+    let does = a.does;
+    match does {
+        Does::Push(g) => {
+            spawn(ws, i, j, g, a.count, &out);
+            Made::Rule(Number::PROMOTE)
+        }
+        _ => Made::Refused(Number::STUCK),
     }
-    frames::add_thread(ws, i, e.frame);
-    frames::promote_call(ws, i, o.frame);
-    Made::Rule(10)
 }
 
 // One choice: 14 for a kind above 1, 15 for a thread that is not there.
@@ -322,4 +347,42 @@ pub fn choice(s: &[u8], places: &[u16; 656], ws: &mut [i32], kind: u32, thread: 
     } else {
         promote(s, places, ws, i)
     }
+}
+
+// Can thread i step? The words that cannot are left as they are.
+fn goes(s: &[u8], places: &[u16; 656], ws: &mut [i32], i: u32) -> bool
+    requires { ⌜ length (now ws) ≡ poolWords ⌝ }
+    ensures { λ r. ⌜ Tries (now (s .entry)) (now (places .entry)) (now (ws .entry)) i r (now (ws .exit)) ⌝ }
+{
+    let made = choice(s, places, ws, 0, i);
+    match made {
+        Made::Rule(_) => true,
+        Made::Refused(_) => false,
+    }
+}
+
+// The first thread that can step, tried on words that may be changed.
+fn first(s: &[u8], places: &[u16; 656], ws: &mut [i32]) -> Stepper
+    requires { ⌜ length (now ws) ≡ poolWords ⌝ }
+    ensures { λ r. ⌜ FindsStepper (now (s .entry)) (now (places .entry)) (now (ws .entry)) r ⌝ }
+{
+    let n = frames::thread_count(ws);
+    let mut i: u32 = 0;
+    while (i as usize) < n {
+        if goes(s, places, ws, i) {
+            return Stepper::Thread(i as usize);
+        }
+        i += 1;
+    }
+    Stepper::Nobody
+}
+
+// The first thread that can step. It is tried on a copy, so that a choice is the one place where a step is worked.
+pub fn can_step(s: &[u8], places: &[u16; 656], ws: &[i32]) -> Stepper
+    requires { ⌜ length (now ws) ≡ poolWords ⌝ }
+    ensures { λ r. ⌜ FindsStepper (now (s .entry)) (now (places .entry)) (now (ws .entry)) r ⌝ }
+{
+    let mut copy = [0i32; Pool::WORDS];
+    words::copy(&mut copy, 0, ws);
+    first(s, places, &mut copy)
 }

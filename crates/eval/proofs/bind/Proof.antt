@@ -1,7 +1,7 @@
 -- `eval::bind` meets its contract.
-use Rattle.eval.proofs.Leaves.{bound}
-use native.Mathlib.Omega.{arith}
 use borrow.Author.Needs.{needs}
+use native.Mathlib.Omega.{arith}
+use mir.Facts.{toZ-ofZ}
 use Rattle.eval.proofs.bind.Statement.{statement}
 use Rattle.eval.proofs.bind.Tie as tie
 
@@ -11,6 +11,5 @@ bind-spec =
     (tie.spec
     (λ c κs. search needs)
     (λ c. search needs)
-    (λ c. search needs)
-    (λ c. λ h. bound (c .before .before .args .k) _ _ _ (c .before .before .fits .v) (cc))
-    (λ c. λ h. absurd (omega arith)))
+    (λ c l. rw (← toZ-ofZ (c .before .before .before .before .fits .v)) (c .before .bind .ensures))
+    (λ c l. absurd (omega arith)))

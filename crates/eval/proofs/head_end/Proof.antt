@@ -1,5 +1,5 @@
 -- `eval::head_end` meets its contract.
-use Rattle.eval.specs.Bytes.{headEnd}
+use Rattle.eval.specs.Code.{headEnd}
 use borrow.Author.Needs.{needs}
 use Rattle.eval.proofs.head_end.Statement.{statement}
 use Rattle.eval.proofs.head_end.Tie as tie

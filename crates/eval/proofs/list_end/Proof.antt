@@ -1,5 +1,5 @@
 -- `eval::list_end` meets its contract.
-use Rattle.eval.specs.Bytes.{listEnd}
+use Rattle.eval.specs.Code.{listEnd}
 use borrow.Author.Needs.{needs}
 use Rattle.eval.proofs.list_end.Statement.{statement}
 use Rattle.eval.proofs.list_end.Tie as tie

@@ -1,5 +1,5 @@
 -- `eval::statement_end` meets its contract.
-use Rattle.eval.specs.Bytes.{statementEnd}
+use Rattle.eval.specs.Code.{statementEnd}
 use borrow.Author.Needs.{needs}
 use Rattle.eval.proofs.statement_end.Statement.{statement}
 use Rattle.eval.proofs.statement_end.Tie as tie

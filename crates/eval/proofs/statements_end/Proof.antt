@@ -2,7 +2,7 @@
 use borrow.Author.Needs.{needs}
 use native.Mathlib.Omega.{arith}
 use mathlib.Core.Path.{_≡_, refl, sym, _∙_}
-use Rattle.eval.specs.Bytes.{statementsEnd}
+use Rattle.eval.specs.Code.{statementsEnd}
 use Rattle.eval.proofs.Lists.{statements-goes, statements-none}
 use Rattle.eval.proofs.statements_end.Statement.{statement}
 use Rattle.eval.proofs.statements_end.Tie as tie

@@ -1,4 +1,5 @@
--- `frames::pop_frame`: the count, one frame pasted, and one cleared.
+-- `frames::pop_frame`: the count, and one frame cleared.
+use native.Mathlib.Omega.{arith}
 use borrow.Author.Needs.{needs}
 use denote.Ref.{now}
 use Rattle.frames.proofs.Steps.{was-popped}
@@ -13,19 +14,11 @@ pop-frame-spec =
     (λ c κs. search needs)
     (λ c. search needs)
     (λ c κs. search needs)
-    (λ c. search needs)
-    (λ c κs. search needs)
-    (λ c κs. search needs)
-    (λ c. search needs)
-    (λ c κs. search needs)
     (λ c κs. search needs)
     (λ c. search needs)
     (λ c.
-    let s = c .before .before .before .before .before .before .before .before .before .before .before .before .before .before in
-    was-popped (now (s .args .ws)) (s .args .thread) _ _ _ _ _ _ _ (s .args .caller)
-    (c .before .before .before .before .before .before .before .before .before .before .before .before .frame-count .ensures)
-    (c .before .before .before .before .before .before .before .before .before .before .thread-start .ensures)
-    (c .before .before .before .before .before .before .before .before .before .set-count .ensures)
-    (c .before .before .before .before .before .before .frame-start .ensures)
-    (c .before .before .before .before .before .write-frame .ensures) (c .before .before .frame-start2 .ensures)
-    (c .before .clear .ensures)))
+    let s = c .before .before .before .before .before .before .before .before .before in
+    let n = c .before .before .before .before .before .before .before .frame-count .ensures in
+    was-popped (now (s .args .ws)) (s .args .thread) _ _ _ _ _ n
+    (c .before .before .before .before .before .thread-start .ensures) (c .before .before .before .before .set-count .ensures)
+    (omega (arith, n, s .pre .3)) (c .before .clear .ensures)))

@@ -1,4 +1,5 @@
--- `frames::push_frame`: the count, and two frames pasted.
+-- `frames::push_frame`: the count, and one frame pasted.
+use native.Mathlib.Omega.{arith}
 use borrow.Author.Needs.{needs}
 use denote.Ref.{now}
 use Rattle.frames.proofs.Steps.{was-pushed}
@@ -15,16 +16,10 @@ push-frame-spec =
     (λ c κs. search needs)
     (λ c. search needs)
     (λ c κs. search needs)
-    (λ c κs. search needs)
-    (λ c κs. search needs)
-    (λ c κs. search needs)
     (λ c. search needs)
     (λ c.
-    let s = c .before .before .before .before .before .before .before .before .before .before .before .before .before .before in
-    was-pushed (now (s .args .ws)) (s .args .thread) _ _ _ _ _ _ _ (s .args .caller) (s .args .callee) (s .pre .2)
-    (c .before .before .before .before .before .before .before .before .before .before .before .before .frame-count .ensures)
-    (c .before .before .before .before .before .before .before .before .before .before .thread-start .ensures)
-    (c .before .before .before .before .before .before .before .before .before .set-count .ensures)
-    (c .before .before .before .before .before .before .frame-start .ensures)
-    (c .before .before .before .before .before .write-frame .ensures) (c .before .before .frame-start2 .ensures)
-    (c .before .write-frame2 .ensures)))
+    let s = c .before .before .before .before .before .before .before .before .before in
+    let n = c .before .before .before .before .before .before .before .frame-count .ensures in
+    was-pushed (now (s .args .ws)) (s .args .thread) _ _ _ _ _ (s .args .f) (s .pre .2) n
+    (c .before .before .before .before .before .thread-start .ensures) (c .before .before .before .before .set-count .ensures)
+    (omega (arith, n, s .pre .3)) (c .before .write-frame .ensures)))

@@ -1,24 +1,24 @@
 -- `rules::begin` meets its contract.
 use mathlib.Core.Path.{refl}
-use Rattle.rules.proofs.Heads.{begun, given-le, Filled, filled-starts, filled-goes}
-use borrow.Author.Needs.{needs, sfits-of}
 use native.Mathlib.Omega.{arith}
 use Prim.Native.Nat.{_-_}
-use Rattle.eval.proofs.Leaves.{values-sized}
+use denote.Ref.{now}
+use borrow.Author.Needs.{needs, sfits-of}
+use Rattle.rules.proofs.Heads.{begun, Filled, filled-starts, filled-goes}
 use Rattle.rules.proofs.begin.Statement.{statement}
 use Rattle.rules.proofs.begin.Tie as tie
 
 abbrev Inv-loop : tie.InvT-loop
-Inv-loop g v n values₀ i₀ values i = Filled v n values i
+Inv-loop g n v count values₀ i₀ values i = Filled v count values i
 
 abbrev μ-loop : tie.MeasureT-loop
-μ-loop g v n values₀ i₀ values i = n - i
+μ-loop g n v count values₀ i₀ values i = count - i
 
-given-requires : tie.Need-given-requires Inv-loop μ-loop
-given-requires c κs = search needs
+few-requires : tie.Need-few-requires Inv-loop μ-loop
+few-requires c κs = search needs
 
 loop-holds : tie.Need-loop-holds Inv-loop μ-loop
-loop-holds c = let v = c .before .args .t2 in filled-starts v _ (c .given .ensures) (values-sized v (c .before .good .1 .0))
+loop-holds c = filled-starts _ _ (c .few .ensures .within) (c .before .pre)
 
 cast-j : tie.Need-cast-j Inv-loop μ-loop
 cast-j c = search needs
@@ -26,8 +26,8 @@ cast-j c = search needs
 mul-values : tie.Need-mul-values Inv-loop μ-loop
 mul-values c = search needs
 
-element-copy-out-values : tie.Need-element-copy-out-values Inv-loop μ-loop
-element-copy-out-values c = search needs
+shared-slice-copy-out-values : tie.Need-shared-slice-copy-out-values Inv-loop μ-loop
+shared-slice-copy-out-values c = search needs
 
 mul-values-2 : tie.Need-mul-values-2 Inv-loop μ-loop
 mul-values-2 c = search needs
@@ -45,10 +45,10 @@ loop-again : tie.Need-loop-again Inv-loop μ-loop
 loop-again c = search (filled-goes, sfits-of)
 
 below-requires : tie.Need-below-requires Inv-loop μ-loop
-below-requires c κs = let v = c .before .before .before .args .t2 in omega (arith, given-le v (c .before .before .given .ensures) (values-sized v (c .before .before .before .good .1 .0)))
+below-requires c κs = omega (arith, c .before .before .few .ensures .within)
 
 returns : tie.Need-returns Inv-loop μ-loop
-returns c = let a = c .before .before .before .before .args in begun (a .g) (c .before .before .before .given .result) (a .t2) _ _ _ (c .before .before .loop .i) (c .before .before .loop .inv) (c .before .loop-test .left) (c .before .before .before .given .ensures) (c .below .ensures) refl
+returns c = let s = c .before .before .before .before in begun (s .args .g) (s .args .n) _ (now (s .args .v)) _ _ _ (c .before .before .loop .i) (s .pre) (c .before .before .before .few .ensures) (c .before .before .loop .inv) (c .before .loop-test .left) (c .below .ensures) refl
 
 pub begin-spec : {M : Type 1} → statement M
 begin-spec =
@@ -56,11 +56,11 @@ begin-spec =
     (tie.spec
     Inv-loop
     μ-loop
-    given-requires
+    few-requires
     loop-holds
     cast-j
     mul-values
-    element-copy-out-values
+    shared-slice-copy-out-values
     mul-values-2
     array-set-from-values
     add-i

@@ -10,10 +10,6 @@ branch-spec =
     tie.close
     (tie.spec
     (λ c κs. search needs)
+    (λ c. let a = c .before .before .before .args in branch-else (now (a .s)) (now (a .places)) (a .f) (a .b) (a .c) (a .v) (c .enter .result) (bits-zero (a .v) (c .before .before .before .fits .v) (c .before .if1 .taken)) (c .enter .ensures))
     (λ c κs. search needs)
-    (λ c κs. search needs)
-    (λ c. let a = c .before .before .before .before .before .args in branch-else (now (a .s)) (now (a .places)) (a .k) (a .b) (a .c) (a .v) (c .before .before .nothing .result) (c .by .result) (c .before .enter .result) (c .before .before .nothing .ensures) (bits-zero (a .v) (c .before .before .before .before .before .fits .v) (c .before .before .before .if1 .taken)) (c .before .enter .ensures) (c .by .ensures))
-    (λ c κs. search needs)
-    (λ c κs. search needs)
-    (λ c κs. search needs)
-    (λ c. let a = c .before .before .before .before .before .args in branch-then (now (a .s)) (now (a .places)) (a .k) (a .b) (a .c) (a .v) (c .before .before .nothing2 .result) (c .by2 .result) (c .before .enter2 .result) (c .before .before .nothing2 .ensures) (bits-some (a .v) (c .before .before .before .if1 .left)) (c .before .enter2 .ensures) (c .by2 .ensures)))
+    (λ c. let a = c .before .before .before .args in branch-then (now (a .s)) (now (a .places)) (a .f) (a .b) (a .c) (a .v) (c .enter2 .result) (bits-some (a .v) (c .before .if1 .left)) (c .enter2 .ensures)))

@@ -1,6 +1,7 @@
 -- `rules::spoin` meets its contract.
 use Rattle.rules.proofs.Steps.{spoin-none, spoin-unpromoted, spoin-promoted}
 use denote.Ref.{now}
+use Rattle.frames.specs.InPlace.{frameAt}
 use borrow.Author.Needs.{needs}
 use Rattle.rules.proofs.spoin.Statement.{statement}
 use Rattle.rules.proofs.spoin.Tie as tie
@@ -11,15 +12,10 @@ spoin-spec =
     (tie.spec
     (λ c κs. search needs)
     (λ c κs. search needs)
-    (λ c. let a = c .before .before .before .before .args in spoin-none (now (a .s)) (now (a .places)) (a .k) (a .b) (a .c) (c .stuck .result) (c .before .before .open-calls .ensures) (c .before .if1 .taken) (c .stuck .ensures))
-    (λ c. search needs)
+    (λ c. let a = c .before .before .before .before .args in let m = frameAt (now (a .ws)) (a .k) in spoin-none (now (a .s)) (now (a .places)) m (a .b) (a .c) (c .stuck .result) (c .before .before .opened .ensures) (c .before .if1 .taken) (c .stuck .ensures))
     (λ c κs. search needs)
     (λ c κs. search needs)
     (λ c κs. search needs)
+    (λ c. let a = c .before .before .before .before .before .before .before .args in let m = frameAt (now (a .ws)) (a .k) in spoin-unpromoted (now (a .s)) (now (a .places)) m (a .b) (a .c) (c .enter .result) (c .before .before .before .before .before .opened .ensures) (c .before .before .before .before .if1 .left) (c .before .before .before .promoted .ensures) (c .before .before .if2 .taken) (c .before .function .ensures) (c .enter .ensures))
     (λ c κs. search needs)
-    (λ c. let a = c .before .before .before .before .before .before .before .before .args in spoin-unpromoted (now (a .s)) (now (a .places)) (a .k) (a .b) (a .c) (c .by .result) (c .before .before .before .before .before .before .open-calls .ensures) (c .before .before .before .deque .result) (c .before .before .nothing .result) (c .before .enter .result) (c .before .before .before .before .before .if1 .left) (c .before .before .before .before .if2 .taken) (c .before .before .before .deque .ensures) (c .before .before .nothing .ensures) (c .before .enter .ensures) (c .by .ensures))
-    (λ c. search needs)
-    (λ c. search needs)
-    (λ c κs. search needs)
-    (λ c κs. search needs)
-    (λ c. let a = c .before .before .before .before .before .before .args in spoin-promoted (now (a .s)) (now (a .places)) (a .k) (a .b) (a .c) (c .join .result) (c .before .before .before .before .open-calls .ensures) (c .before .deque2 .result) (c .before .before .before .if1 .left) (c .before .before .if2 .left) (c .before .deque2 .ensures) (c .join .ensures)))
+    (λ c. let a = c .before .before .before .before .before .before .args in let m = frameAt (now (a .ws)) (a .k) in spoin-promoted (now (a .s)) (now (a .places)) m (a .b) (a .c) (c .doing .result) (c .before .before .before .before .opened .ensures) (c .before .before .before .if1 .left) (c .before .before .promoted .ensures) (c .before .if2 .left) (c .doing .ensures)))

@@ -1,6 +1,7 @@
 -- `rules::transfer` meets its contract.
 use Rattle.rules.proofs.Steps.{transfer-goto, transfer-if, transfer-call, transfer-return, transfer-ends}
 use denote.Ref.{now}
+use Rattle.frames.specs.InPlace.{frameAt}
 use borrow.Author.Needs.{needs}
 use Rattle.rules.proofs.transfer.Statement.{statement}
 use Rattle.rules.proofs.transfer.Tie as tie
@@ -12,17 +13,20 @@ transfer-spec =
     (λ c κs. search needs)
     (λ c κs. search needs)
     (λ c κs. search needs)
-    (λ c. let a = c .before .before .before .before .before .args in transfer-goto (now (a .s)) (now (a .places)) (a .k) (a .at) (c .goto .result) (c .before .before .before .byte .ensures) (c .before .before .after .ensures) (c .before .if1 .taken) (c .goto .ensures))
+    (λ c. search needs)
+    (λ c. let a = c .before .before .before .before .before .before .before .args in let m = frameAt (now (a .ws)) (a .k) in transfer-goto (now (a .s)) (now (a .places)) m (a .at) _ (c .before .goto .result) (c .before .before .before .before .before .byte .ensures) (c .before .before .before .before .after .ensures) (c .before .before .before .if1 .taken) (c .before .goto .ensures))
     (λ c κs. search needs)
-    (λ c. let a = c .before .before .before .before .before .before .args in transfer-if (now (a .s)) (now (a .places)) (a .k) (a .at) (c .test .result) (c .before .before .before .before .byte .ensures) (c .before .before .before .after .ensures) (c .before .if2 .taken) (c .test .ensures))
-    (λ c κs. search needs)
-    (λ c κs. search needs)
-    (λ c κs. search needs)
-    (λ c κs. search needs)
-    (λ c. let a = c .before .before .before .before .before .before .before .before .before .before .args in transfer-call (now (a .s)) (now (a .places)) (a .k) (a .at) (c .call .result) (c .before .before .before .before .before .before .before .before .byte .ensures) (c .before .before .before .before .before .before .before .after .ensures) (c .before .before .before .if3 .taken) (c .before .before .before .before .after2 .ensures) (c .before .before .list-end .ensures) (c .before .byte2 .ensures) (c .call .ensures))
-    (λ c κs. search needs)
-    (λ c. let a = c .before .before .before .before .before .before .before .before .before .args in transfer-return (now (a .s)) (now (a .places)) (a .k) (a .at) (c .give-back .result) (c .before .before .before .before .before .before .before .byte .ensures) (c .before .before .before .before .before .before .after .ensures) (c .before .if4 .taken) (c .give-back .ensures))
+    (λ c. let a = c .before .before .before .before .before .before .args in let m = frameAt (now (a .ws)) (a .k) in transfer-if (now (a .s)) (now (a .places)) m (a .at) _ (c .test .result) (c .before .before .before .before .byte .ensures) (c .before .before .before .after .ensures) (c .before .if2 .taken) (c .test .ensures))
     (λ c κs. search needs)
     (λ c κs. search needs)
     (λ c κs. search needs)
-    (λ c. let a = c .before .before .before .before .before .before .before .before .before .before .before .args in transfer-ends (now (a .s)) (now (a .places)) (a .k) (a .at) (c .ends .result) (c .before .before .before .before .before .before .before .before .before .byte .ensures) (c .before .before .before .before .before .before .before .before .after .ensures) (c .before .before .before .before .before .before .before .if1 .left) (c .before .before .before .before .before .before .if2 .left) (c .before .before .before .before .if3 .left) (c .before .before .before .if4 .left) (c .before .before .before .before .before .after2 .ensures) (c .before .before .byte3 .ensures) (c .before .byte4 .ensures) (c .ends .ensures)))
+    (λ c κs. search needs)
+    (λ c. search needs)
+    (λ c. let a = c .before .before .before .before .before .before .before .before .before .before .before .before .args in let m = frameAt (now (a .ws)) (a .k) in transfer-call (now (a .s)) (now (a .places)) m (a .at) _ (c .before .call .result) (c .before .before .before .before .before .before .before .before .before .before .byte .ensures) (c .before .before .before .before .before .before .before .before .before .after .ensures) (c .before .before .before .before .before .if3 .taken) (c .before .before .before .before .before .before .after2 .ensures) (c .before .before .before .before .list-end .ensures) (c .before .before .before .byte2 .ensures) (c .before .call .ensures))
+    (λ c κs. search needs)
+    (λ c. search needs)
+    (λ c. let a = c .before .before .before .before .before .before .before .before .before .before .before .args in let m = frameAt (now (a .ws)) (a .k) in transfer-return (now (a .s)) (now (a .places)) m (a .at) _ (c .before .give-back .result) (c .before .before .before .before .before .before .before .before .before .byte .ensures) (c .before .before .before .before .before .before .before .before .after .ensures) (c .before .before .before .if4 .taken) (c .before .give-back .ensures))
+    (λ c κs. search needs)
+    (λ c κs. search needs)
+    (λ c κs. search needs)
+    (λ c. let a = c .before .before .before .before .before .before .before .before .before .before .before .args in let m = frameAt (now (a .ws)) (a .k) in transfer-ends (now (a .s)) (now (a .places)) m (a .at) _ (c .ends .result) (c .before .before .before .before .before .before .before .before .before .byte .ensures) (c .before .before .before .before .before .before .before .before .after .ensures) (c .before .before .before .before .before .before .before .if1 .left) (c .before .before .before .before .before .before .if2 .left) (c .before .before .before .before .if3 .left) (c .before .before .before .if4 .left) (c .before .before .before .before .before .after2 .ensures) (c .before .before .byte3 .ensures) (c .before .byte4 .ensures) (c .ends .ensures)))

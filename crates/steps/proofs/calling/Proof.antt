@@ -1,5 +1,5 @@
 use borrow.Author.Needs.{needs}
-use Rattle.steps.proofs.Deciding.{refuse-room, calls-room, calls-full}
+use Rattle.steps.proofs.Deciding.{calls-room, calls-full}
 use Rattle.steps.proofs.calling.Statement.{statement}
 use Rattle.steps.proofs.calling.Tie as tie
 
@@ -9,5 +9,5 @@ calling-spec =
     (tie.spec
     (λ c κs. search needs)
     (λ c κs. search needs)
-    (λ c. (search needs, calls-room _ _ (c .before .frame-count .ensures) (search needs)))
-    (λ c. (refuse-room _ _ (c .refuse .ensures), calls-full _ _ (c .before .before .frame-count .ensures) _ (search needs) (c .refuse .ensures))))
+    (λ c. calls-room _ (c .before .frame-count .ensures) (search needs))
+    (λ c. calls-full _ (c .before .before .frame-count .ensures) _ (search needs) (c .refuse .ensures)))

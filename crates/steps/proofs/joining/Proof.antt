@@ -1,6 +1,5 @@
 use borrow.Author.Needs.{needs}
-use Rattle.model.proofs.Facts.{not-true, not-false}
-use Rattle.steps.proofs.Deciding.{refuse-room, joins-alone, joins-waits, joins-join, joins-unmet}
+use Rattle.steps.proofs.Deciding.{joins-alone, joins-waits, joins-entered}
 use Rattle.steps.proofs.joining.Statement.{statement}
 use Rattle.steps.proofs.joining.Tie as tie
 
@@ -11,12 +10,14 @@ joining-spec =
     (λ c κs. search needs)
     (λ c. search needs)
     (λ c κs. search needs)
-    (λ c. (refuse-room _ _ (c .refuse .ensures), joins-alone (c .before .before .before .before .args .k) (c .before .before .before .before .args .c) (c .before .before .thread-count .ensures) (c .refuse .result) (search needs) (c .refuse .ensures)))
+    (λ c. joins-alone _ _ (c .before .before .thread-count .ensures) (search needs) (c .refuse .ensures))
     (λ c. search needs)
     (λ c κs. search needs)
+    (λ c. search needs)
     (λ c κs. search needs)
-    (λ c. (refuse-room _ _ (c .refuse2 .ensures), joins-waits (c .before .before .before .before .before .before .before .args .k) (c .before .before .before .before .before .before .before .args .c) (c .before .before .before .before .before .thread-count .ensures) (c .before .before .before .ended .result) (search needs) (c .before .before .before .ended .ensures) (c .refuse2 .result) (not-true _ (c .before .if2 .taken)) (c .refuse2 .ensures)))
+    (λ c. search needs)
     (λ c κs. search needs)
-    (λ c κs. search needs)
-    (λ c. (search needs, joins-join (c .before .before .before .before .before .before .before .before .before .before .args .k) (c .before .before .before .before .before .before .before .before .before .before .args .c) (c .before .before .before .before .before .before .before .before .thread-count .ensures) (c .before .before .before .before .before .before .ended .result) (search needs) (c .before .before .before .before .before .before .ended .ensures) (c .before .before .enter .result) (not-false _ (c .before .before .before .before .if2 .left)) (c .before .before .enter .ensures) (c .if3 .taken)))
-    (λ c. (refuse-room _ _ (c .refuse3 .ensures), joins-unmet (c .before .before .before .before .before .before .before .before .before .before .before .args .k) (c .before .before .before .before .before .before .before .before .before .before .before .args .c) (c .before .before .before .before .before .before .before .before .before .thread-count .ensures) (c .before .before .before .before .before .before .before .ended .result) (search needs) (c .before .before .before .before .before .before .before .ended .ensures) (c .before .before .before .enter .result) (not-false _ (c .before .before .before .before .before .if2 .left)) (c .before .before .before .enter .ensures) (c .refuse3 .result) (c .before .if3 .left) (c .refuse3 .ensures))))
+    (λ c. search needs)
+    (λ c. joins-entered _ _ (c .before .before .before .before .before .before .before .before .thread-count .ensures) (c .before .before .before .before .before .returned .result) (search needs) (c .before .before .before .before .before .returned .ensures) (c .before .before .r .given .1) (search needs) (c .enter .ensures))
+    (λ c. search needs)
+    (λ c. joins-waits _ _ (c .before .before .before .before .before .before .before .thread-count .ensures) (c .before .before .before .before .returned .result) (search needs) (c .before .before .before .before .returned .ensures) (c .before .enum-told .given .1) (c .refuse2 .ensures)))

@@ -8,6 +8,9 @@ step-spec =
     tie.close
     (tie.spec
     (λ c κs. search needs)
+    (λ c. search needs)
     (λ c κs. search needs)
     (λ c. search needs)
-    (λ c. steps-applied (c .before .before .before .decide .result) _ _ (c .before .before .before .decide .ensures .1) (c .before .apply .ensures)))
+    (λ c κs. search needs)
+    (λ c. search needs)
+    (λ c. steps-applied (c .before .before .before .before .before .decide .result) _ _ _ (c .before .before .before .before .before .decide .ensures) (c .before .apply .ensures)))

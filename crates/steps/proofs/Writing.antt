@@ -1,0 +1,113 @@
+-- What each sequence of writes leaves.
+use Prim.Native.Nat.{ℕ, _+_, _-_, _≤_, _<_}
+use mathlib.Core.Path.{_≡_, refl, sym, ap, subst, subst⁻¹, _∙_}
+use mathlib.Core.List.{List, [], _∷_, _++_}
+use native.Mathlib.Omega.{arith}
+use lib.IntN.{ℤ}
+use lib.ListN.{length, take}
+use Rattle.model.specs.Pool.{Frame, Thread, Pool, mostCalls, mostFrames, frameWords, begin}
+use Rattle.model.specs.Frames.{goTo, bind, deque}
+use Rattle.frames.specs.declared.Frame as Code
+use Rattle.frames.specs.Frame.{modelOf, Small}
+use Rattle.frames.specs.Held.{startOf, ThreadAt, FrameAt}
+use Rattle.frames.specs.Edits.{framesIn, threadsIn, lone, Pushed, Popped, Promoted, Added, Removed}
+use Rattle.frames.specs.InPlace.{frameAt, newestAt, FrameHeld, Became, Jumped, Advanced, Opened, Closed}
+use Rattle.frames.proofs.Steps.{frames-counted, threads-counted}
+use Rattle.frames.proofs.Edits.{frame-replaced}
+use Rattle.frames.proofs.InPlace.{frame-at, became-held, became-then, newest-start, newest-held, below-held, newest-became}
+use Rattle.eval.specs.Given.{Binds, BindsAll}
+use Rattle.rules.specs.Acts.{closed}
+use Rattle.steps.specs.Writes.{Sets, Arrives, Opens, Closes, Shuts, Pushes, Pops, Unites, Spawned}
+
+-- of the frame at k
+module _ {ws ws₁ ws₂ : List ℤ} {k : ℕ} (l : k + frameWords ≤ length ws) where
+  -- one change after another
+  both : {m m₁ m₂ : Frame} → FrameHeld ws k m → Became ws k m₁ ws₁ → (FrameHeld ws₁ k m₁ → Became ws₁ k m₂ ws₂) → Became ws k m₂ ws₂
+  both h b f = became-then l b (f (became-held l b))
+
+  pub was-set : (x : ℕ) (v : ℤ) → Advanced ws k ws₁ → Binds ws₁ k x v ws₂ → Sets ws k x v ws₂
+  unfolding goTo bind
+  was-set x v f g m h p q = both h (f m h q) (λ o. g p (goTo m (m .block) (m .done + 1)) o)
+
+  pub was-arrived : (s : List ℕ) (c p : ℕ) (out : List ℤ) → Jumped ws k c 0 ws₁ → BindsAll s p ws₁ k out ws₂ → Arrives s ws k c p out ws₂
+  was-arrived s c p out f g m h e = both h (f m h) (λ o. g (goTo m c 0) o e)
+
+  pub was-opened : {n : ℕ} (π c : ℕ) → n ≡ length (frameAt ws k .calls) → Opened ws k n π ws₁ → Jumped ws₁ k c 0 ws₂ → Opens ws k π c ws₂
+  was-opened {n} π c e f g m h few =
+      let q : length (m .calls) ≡ n = sym (e ∙ ap (λ (x : Frame). length (x .calls)) (frame-at h)) in
+      both h (f m h q) (λ o. g (deque m (m .calls ++ (π ∷ [])) (m .promoted)) o)
+
+  pub was-shut : (c : ℕ) → Closes ws k 0 ws₁ → Jumped ws₁ k c 0 ws₂ → Shuts ws k c ws₂
+  was-shut c f g m h e =
+      let z : m .promoted - 0 ≡ m .promoted = omega arith in
+      both h (subst (λ (n : ℕ). Became ws k (closed m n) ws₁) z (f m h e (omega arith))) (λ o. g (closed m (m .promoted)) o)
+
+module _ {ws : List ℤ} {k : ℕ} where
+  pub not-opened : {n : ℕ} (π c : ℕ) → n ≡ length (frameAt ws k .calls) → mostCalls ≤ n → Opens ws k π c ws
+  not-opened π c e o m h few = absurd (omega (arith, e, ap (λ (x : Frame). length (x .calls)) (frame-at h)))
+
+  module _ {n p joined : ℕ} (e : n ≡ length (frameAt ws k .calls)) (q : p ≡ frameAt ws k .promoted) where
+    pub was-closed : {ws₁ : List ℤ} → 0 < n → Closed ws k (n - 1) (p - joined) ws₁ → Closes ws k joined ws₁
+    was-closed {ws₁} o f m h few l =
+        let c : n ≡ length (m .calls) = e ∙ ap (λ (x : Frame). length (x .calls)) (frame-at h) in
+        let r : p ≡ m .promoted = q ∙ ap (λ (x : Frame). x .promoted) (frame-at h) in
+        subst (λ (x : Frame). Became ws k x ws₁) (λ i. deque m (take (c i - 1) (m .calls)) (r i - joined)) (f m h (omega arith))
+
+    pub none-closed : n ≤ 0 → Closes ws k joined ws
+    none-closed o m h few l = absurd (omega (arith, e, ap (λ (x : Frame). length (x .calls)) (frame-at h)))
+
+    pub none-joined : p < joined → Closes ws k joined ws
+    none-joined o m h few l = absurd (omega (arith, q, ap (λ (x : Frame). x .promoted) (frame-at h)))
+
+-- of thread i: its newest frame has become another
+pub newest-changed : {ws ws₁ : List ℤ} {i k : ℕ} {a b : Pool} {t : Thread} {m : Frame} → ThreadAt ws i a t b → Small (t .newest) → k ≡ newestAt ws i
+    → (FrameHeld ws k (t .newest) → Became ws k m ws₁) → ThreadAt ws₁ i a (record { newest = m; older = t .older }) b
+newest-changed {ws} {ws₁} {i} {k} {a} {b} {t} {m} h s e f =
+    newest-became h
+    (subst (λ (p : ℕ). Became ws p m ws₁) e (f (subst⁻¹ (λ (p : ℕ). FrameHeld ws p (t .newest)) e (newest-held h s))))
+
+-- the frame below the newest has become another
+below-changed : {ws ws₁ : List ℤ} {i k : ℕ} {a b : Pool} {l m m₁ : Frame} {K : List Frame} → ThreadAt ws i a (record { newest = l; older = m ∷ K }) b
+    → Small m → k ≡ startOf i (framesIn ws i - 2) → (FrameHeld ws k m → Became ws k m₁ ws₁)
+    → ThreadAt ws₁ i a (record { newest = l; older = m₁ ∷ K }) b
+below-changed {ws} {ws₁} {i} {k} {a} {b} {l} {m} {m₁} {K} h s e f =
+    let c : Became ws k m₁ ws₁ = f (subst⁻¹ (λ (p : ℕ). FrameHeld ws p m) e (below-held h s)) in
+    let x : FrameAt (record { newest = l; older = m ∷ K }) (length K) (l ∷ []) m K = record { is = refl; place = refl } in
+    let y : FrameAt (record { newest = l; older = m₁ ∷ K }) (length K) (l ∷ []) m₁ K = record { is = refl; place = refl } in
+    subst⁻¹ (λ (w : List ℤ). ThreadAt w i a (record { newest = l; older = m₁ ∷ K }) b) (c .words)
+    (frame-replaced h x y (c .small .fits) k (omega (arith, e, frames-counted h)))
+
+module _ {ws : List ℤ} {i : ℕ} where
+  pub was-pushed : {ws₁ ws₂ : List ℤ} {k : ℕ} (g n c : ℕ) (out : List ℤ) (f : Code.Frame) → k ≡ newestAt ws i → modelOf f ≡ begin g (take n out)
+      → Pushed ws i (modelOf f) ws₁ → Jumped ws₁ k c 0 ws₂ → Pushes ws i g n c out ws₂
+  was-pushed {ws₁} {ws₂} {k} g n c out f e q p j a t b h s few =
+      let x : ThreadAt ws₁ i a (record { newest = begin g (take n out); older = t .newest ∷ t .older }) b =
+      subst (λ (m : Frame). ThreadAt ws₁ i a (record { newest = m; older = t .newest ∷ t .older }) b) q (p a t b h)
+      in
+      below-changed x s (omega (arith, e, frames-counted h, frames-counted x)) (λ o. j (t .newest) o)
+
+  pub not-pushed : {m : ℕ} (g n c : ℕ) (out : List ℤ) → m ≡ framesIn ws i → mostFrames ≤ m → Pushes ws i g n c out ws
+  not-pushed g n c out e o a t b h s few = absurd (omega (arith, e, frames-counted h))
+
+  pub was-popped : {ws₁ ws₂ : List ℤ} {k j : ℕ} (s : List ℕ) (c p : ℕ) (out : List ℤ) → Popped ws i ws₁ → k ≡ newestAt ws i → j ≡ k - frameWords
+      → Arrives s ws₁ j c p out ws₂ → Pops s ws i c p out ws₂
+  was-popped s c p out f e q g a l m K b h o r =
+      let x = f a l m K b h in
+      newest-changed x o (omega (arith, e, q, newest-start h, newest-start x)) (λ u. g m u r)
+
+  pub not-popped : {n : ℕ} (s : List ℕ) (c p : ℕ) (out : List ℤ) → n ≡ framesIn ws i → n ≤ 1 → Pops s ws i c p out ws
+  not-popped s c p out e o a l m K b h u r = absurd (omega (arith, e, frames-counted h))
+
+  pub was-united : {ws₁ ws₂ ws₃ : List ℤ} {k : ℕ} (s : List ℕ) (c p : ℕ) (out : List ℤ) → Removed ws i ws₁ → k ≡ newestAt ws i → k + frameWords ≤ length ws₁
+      → Closes ws₁ k 1 ws₂ → Arrives s ws₂ k c p out ws₃ → Unites s ws i c p out ws₃
+  was-united s c p out f e l g j a t u b h z n v r =
+      let x = f a t u b h in
+      newest-changed x z (e ∙ newest-start h ∙ sym (newest-start x)) (λ o. both l o (g (t .newest) o n v) (λ y. j (closed (t .newest) (t .newest .promoted - 1)) y r))
+
+  pub not-united : {m : ℕ} (s : List ℕ) (c p : ℕ) (out : List ℤ) → m ≡ threadsIn ws → m ≤ i + 1 → Unites s ws i c p out ws
+  not-united s c p out e o a t u b h z n v r = absurd (omega (arith, e, threads-counted h, h .place))
+
+  pub was-spawned : {ws₁ ws₂ : List ℤ} {j : ℕ} (g n : ℕ) (out : List ℤ) (f : Code.Frame) → modelOf f ≡ begin g (take n out) → Added ws i (modelOf f) ws₁
+      → Promoted ws₁ i j ws₂ → Spawned ws i j g n out ws₂
+  was-spawned {ws₁} {ws₂} g n out f q p r a t b K₁ k K₂ t′ h x s y =
+      r a t (lone (begin g (take n out)) ∷ b) K₁ k K₂ t′ (subst (λ (m : Frame). ThreadAt ws₁ i a t (lone m ∷ b)) q (p a t b h)) x s y
