@@ -9,7 +9,7 @@
  * the same time; two calls on one pool may not, if either of them writes it. Lent regions that a call writes must not overlap
  * others of the same call. With a count of 0 the pointer must still be valid for that type (not NULL).
  *
- * The archive has mezdaulk_read and mezdaulk_check so far; the other calls are declared and not yet in it.
+ * rt staticlib mezdaulk writes the archive with all seven calls, target/staticlib/libmezdaulk.a.
  */
 #ifndef MEZDAULK_H
 #define MEZDAULK_H

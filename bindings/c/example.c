@@ -1,6 +1,8 @@
-/* Checks table B of the manual, starts a pool, promotes the spork's call and joins it: main returns 7. */
+/* Checks table B of the manual and runs it: the spork's call is promoted and joined, and main returns 7. Each answer is printed and held
+ * to what it must be; the status is 1 if one is another. */
 #include <inttypes.h>
 #include <stdio.h>
+#include <string.h>
 
 #include "mezdaulk.h"
 
@@ -11,23 +13,71 @@ static const uint8_t table[] = {
     0x01, 0x01, 0x00, 0x00, 0x00, 0x00, 0x00, 0x01, 0x00, 0x00, 0x00, 0x00, 0x00, 0x00, 0x07, 0x03, 0x01, 0x00,
 };
 
+static int wrong = 0;
+
+static void hold(const char *what, int64_t found, int64_t due) {
+    if (found != due) {
+        printf("  %s is %" PRId64 " and must be %" PRId64 "\n", what, found, due);
+        wrong = 1;
+    }
+}
+
+/* An answer that is given, with its value. */
+static void given(const char *call, uint64_t answer, uint32_t value) {
+    printf("%s: given %" PRIu32 "\n", call, MEZDAULK_VALUE(answer));
+    hold("given", (int64_t)MEZDAULK_GIVEN(answer), 1);
+    hold("the value", MEZDAULK_VALUE(answer), value);
+}
+
+/* A refusal, with its number. */
+static void refused(const char *call, uint64_t answer, unsigned number) {
+    printf("%s: refused %u\n", call, MEZDAULK_NUMBER(answer));
+    hold("given", (int64_t)MEZDAULK_GIVEN(answer), 0);
+    hold("the number", MEZDAULK_NUMBER(answer), number);
+}
+
+static void four(const int32_t found[4], int32_t first) {
+    hold("the first value", found[0], first);
+    for (int k = 1; k < 4; k++) {
+        hold("a value that is not given", found[k], -1);
+    }
+}
+
 int main(void) {
     static int32_t pool[MEZDAULK_POOL_WORDS];
-    const struct mezdaulk_choice choices[] = {{0, 0}, {1, 0}, {0, 1}, {0, 0}};
-    int32_t values[4];
-    uint64_t made = 0;
-    uint64_t answer = mezdaulk_check(table, sizeof table);
-    if (!MEZDAULK_GIVEN(answer)) {
-        printf("refused %u\n", MEZDAULK_NUMBER(answer));
-        return 1;
-    }
-    printf("accepted\n");
-    mezdaulk_start(table, sizeof table, pool, MEZDAULK_POOL_WORDS);
-    answer = mezdaulk_schedule(table, sizeof table, pool, MEZDAULK_POOL_WORDS, choices, 4, &made);
-    printf("%" PRIu64 " made%s\n", made, MEZDAULK_GIVEN(answer) ? "" : ", then refused");
-    answer = mezdaulk_values(table, sizeof table, pool, MEZDAULK_POOL_WORDS, values);
-    if (MEZDAULK_GIVEN(answer) && MEZDAULK_VALUE(answer) == 1) {
-        printf("result %" PRId32 "\n", values[0]);
-    }
-    return !(made == 4 && MEZDAULK_VALUE(answer) == 1 && values[0] == 7);
+    uint8_t damaged[sizeof table];
+    const size_t bytes = sizeof table;
+    const size_t words = MEZDAULK_POOL_WORDS;
+    const struct mezdaulk_choice choices[] = {{MEZDAULK_STEP, 1}, {MEZDAULK_STEP, 0}, {MEZDAULK_STEP, 0}};
+    int32_t values[4] = {-1, -1, -1, -1};
+    uint64_t made = 99;
+    uint64_t answer;
+
+    memcpy(damaged, table, bytes);
+    damaged[5] = 0;
+    answer = mezdaulk_read(damaged, bytes);
+    refused("read with no function", answer, 3);
+    hold("the place", MEZDAULK_PLACE(answer), 5);
+    given("read", mezdaulk_read(table, bytes), 0);
+    given("check", mezdaulk_check(table, bytes), 0);
+
+    refused("start with no words", mezdaulk_start(table, bytes, pool, 0), 12);
+    given("start", mezdaulk_start(table, bytes, pool, words), 0);
+    given("which", mezdaulk_which(table, bytes, pool, words), 0);
+    given("values", mezdaulk_values(table, bytes, pool, words, values), MEZDAULK_OPEN);
+    four(values, -1);
+
+    given("step 0", mezdaulk_choose(table, bytes, pool, words, MEZDAULK_STEP, 0), 7);
+    given("promote 0", mezdaulk_choose(table, bytes, pool, words, MEZDAULK_PROMOTE, 0), 10);
+    refused("step 0", mezdaulk_choose(table, bytes, pool, words, MEZDAULK_STEP, 0), 17);
+    given("which", mezdaulk_which(table, bytes, pool, words), 1);
+
+    answer = mezdaulk_schedule(table, bytes, pool, words, choices, 3, &made);
+    refused("step 1, step 0, step 0", answer, 16);
+    hold("the number made", (int64_t)made, 2);
+    given("which", mezdaulk_which(table, bytes, pool, words), MEZDAULK_NO_THREAD);
+    given("values", mezdaulk_values(table, bytes, pool, words, values), 1);
+    four(values, 7);
+    printf("result %" PRId32 "\n", values[0]);
+    return wrong;
 }

@@ -127,9 +127,12 @@ pub fn which(table: &[u8], pool: &[i32]) -> Result<Option<usize>, Refusal> {
         .map(|thread| (thread < 8).then_some(thread as usize))
 }
 
-/// Main's values, or none while they are open.
-pub fn values(table: &[u8], pool: &[i32]) -> Result<Option<Vec<i32>>, Refusal> {
-    let mut room = [0i32; 4];
+/// How many values main has, with that many of `room` written, or none while they are open.
+pub fn values_into(
+    table: &[u8],
+    pool: &[i32],
+    room: &mut [i32; 4],
+) -> Result<Option<usize>, Refusal> {
     // Safety: as in `which`; four values are lent for writing.
     let count = answered(unsafe {
         raw::mezdaulk_values(
@@ -140,12 +143,20 @@ pub fn values(table: &[u8], pool: &[i32]) -> Result<Option<Vec<i32>>, Refusal> {
             room.as_mut_ptr(),
         )
     })?;
-    Ok(room.get(..count as usize).map(<[i32]>::to_vec))
+    Ok((count < 5).then_some(count as usize))
+}
+
+/// Main's values, or none while they are open.
+pub fn values(table: &[u8], pool: &[i32]) -> Result<Option<Vec<i32>>, Refusal> {
+    let mut room = [0; 4];
+    let count = values_into(table, pool, &mut room)?;
+    Ok(count.map(|count| room[..count].to_vec()))
 }
 
 /// Choices up to the first refusal: how many were made, and that refusal.
 pub fn schedule(table: &[u8], pool: &mut [i32], choices: &[Choice]) -> (u64, Result<(), Refusal>) {
-    let mut made = 0;
+    // The library writes the number either way; no list has so many.
+    let mut made = u64::MAX;
     // Safety: as in `start`; the choices are valid for their number, and one count is lent for writing.
     let answer = unsafe {
         raw::mezdaulk_schedule(

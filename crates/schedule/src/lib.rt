@@ -8,6 +8,7 @@ ghost use Rattle.model.specs.Calls as Calls;
 ghost use Rattle.pairs.specs.Lists.{scheduledOf, Runs};
 ghost use Rattle.schedule.specs.Choices.{choicesOf};
 
+#[repr(C)]
 pub struct Choice {
     pub kind: u32,
     pub thread: u32,
