@@ -1,5 +1,6 @@
 // The runner: a table, then choices, from standard input; what the check says, a line for each choice, and main's values to
 // standard output.
+use frames::Pool;
 use libc::STDIN_FILENO;
 use steps::Made;
 use verifier::Checked;
@@ -74,7 +75,7 @@ fn told(out: &mut [u8; 65536], r: Run, kind: u8, thread: u8, made: Made) -> Run 
 fn choose(
     t: &[u8],
     places: &[u16; 656],
-    ws: &mut [i32; 1673],
+    ws: &mut [i32; Pool::WORDS],
     out: &mut [u8; 65536],
     r: Run,
     kind: u8,
@@ -88,7 +89,7 @@ fn choose(
 fn pairs(
     t: &[u8],
     places: &[u16; 656],
-    ws: &mut [i32; 1673],
+    ws: &mut [i32; Pool::WORDS],
     out: &mut [u8; 65536],
     run: Run,
     s: &[u8],
@@ -112,7 +113,7 @@ fn pairs(
 fn chunk(
     t: &[u8],
     places: &[u16; 656],
-    ws: &mut [i32; 1673],
+    ws: &mut [i32; Pool::WORDS],
     out: &mut [u8; 65536],
     run: Run,
 ) -> Run {
@@ -131,7 +132,7 @@ fn chunk(
 fn choices(
     t: &[u8],
     places: &[u16; 656],
-    ws: &mut [i32; 1673],
+    ws: &mut [i32; Pool::WORDS],
     out: &mut [u8; 65536],
     waits: usize,
 ) -> usize {
@@ -155,7 +156,7 @@ fn choices(
 fn result(
     t: &[u8],
     places: &[u16; 656],
-    ws: &[i32; 1673],
+    ws: &[i32; Pool::WORDS],
     out: &mut [u8; 65536],
     waits: usize,
 ) -> usize {
@@ -170,22 +171,21 @@ fn result(
     }
 }
 
-// The run of an accepted table.
-fn accepted(t: &[u8], out: &mut [u8; 65536]) -> usize {
-    let mut places = [0u16; 656];
-    let mut ws = [0i32; 1673];
+// The run of an accepted table, by its places.
+fn accepted(t: &[u8], places: &[u16; 656], out: &mut [u8; 65536]) -> usize {
+    let mut ws = [0i32; Pool::WORDS];
     let n = text::bytes(out, 0, b"accepted\n");
-    table::read(t, &mut places);
     frames::start_pool(&mut ws);
-    let n = choices(t, &places, &mut ws, out, n);
-    result(t, &places, &ws, out, n)
+    let n = choices(t, places, &mut ws, out, n);
+    result(t, places, &ws, out, n)
 }
 
 // What the check says of a table of a size; the choices of one that it accepts.
 fn checked(table: &[u8; 16384], size: usize, out: &mut [u8; 65536]) -> usize {
     let t = text::front(table, size);
-    match verifier::check(t) {
-        Checked::Accepted => accepted(t, out),
+    let mut places = [0u16; 656];
+    match verifier::check_placed(t, &mut places) {
+        Checked::Accepted => accepted(t, &places, out),
         Checked::Size => {
             let n = text::refused(out, 0, 1);
             text::line(out, n)
