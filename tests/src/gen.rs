@@ -8,4 +8,4 @@ pub mod programs;
 pub mod scenario;
 pub mod schedules;
 
-pub use scenario::{scenario, Scenario, Source};
+pub use scenario::{scenario, Scenario, Source, NOTES};

@@ -14,6 +14,8 @@ pub mod rng;
 pub mod rules;
 pub mod runner;
 pub mod table;
+pub mod tally;
+pub mod watch;
 
 pub use check::check;
 pub use pool::{Pool, POOL_WORDS};

@@ -14,13 +14,21 @@ pub trait Machine {
     fn choose(&self, table: &[u8], pool: &mut [i32], kind: u64, thread: u64)
         -> Result<u8, Refusal>;
     fn can_step(&self, table: &[u8], pool: &[i32]) -> Result<Option<usize>, Refusal>;
-    fn values(&self, table: &[u8], pool: &[i32]) -> Result<Option<Vec<i32>>, Refusal>;
+    /// How many values main has, that many of `room` written; or open.
+    fn values(
+        &self,
+        table: &[u8],
+        pool: &[i32],
+        room: &mut [i32; 4],
+    ) -> Result<Option<usize>, Refusal>;
+    /// How many choices were made is written either way.
     fn schedule(
         &self,
         table: &[u8],
         pool: &mut [i32],
         choices: &[Choice],
-    ) -> (usize, Option<Refusal>);
+        made: &mut u64,
+    ) -> Result<(), Refusal>;
 
     /// The largest kind or thread the implementation takes.
     fn widest(&self) -> u64 {
@@ -58,8 +66,17 @@ impl Machine for Oracle {
         crate::steppable(table, pool).map(|threads| threads.first().copied())
     }
 
-    fn values(&self, table: &[u8], pool: &[i32]) -> Result<Option<Vec<i32>>, Refusal> {
-        crate::values(table, pool)
+    fn values(
+        &self,
+        table: &[u8],
+        pool: &[i32],
+        room: &mut [i32; 4],
+    ) -> Result<Option<usize>, Refusal> {
+        let values = crate::values(table, pool)?;
+        Ok(values.map(|values| {
+            room[..values.len()].copy_from_slice(&values);
+            values.len()
+        }))
     }
 
     fn schedule(
@@ -67,13 +84,17 @@ impl Machine for Oracle {
         table: &[u8],
         pool: &mut [i32],
         choices: &[Choice],
-    ) -> (usize, Option<Refusal>) {
-        crate::schedule(table, pool, choices)
+        made: &mut u64,
+    ) -> Result<(), Refusal> {
+        let (count, refusal) = crate::schedule(table, pool, choices);
+        *made = count as u64;
+        refusal.map_or(Ok(()), Err)
     }
 }
 
 /// Puts a scenario to every call of a machine and of the oracle; gives each
-/// difference. Places are compared for reading and checking alone.
+/// difference of the answers, refusals with their places, and of what is
+/// written.
 pub fn differences(machine: &dyn Machine, input: &Scenario) -> Vec<String> {
     let mut found = tables_differ(machine, &input.table);
     for table in &input.more_tables {
@@ -89,7 +110,7 @@ pub fn differences(machine: &dyn Machine, input: &Scenario) -> Vec<String> {
     found
 }
 
-/// Reading and checking, refusals with their places.
+/// Reading and checking.
 pub fn tables_differ(machine: &dyn Machine, table: &[u8]) -> Vec<String> {
     [
         differs("read", machine.read(table), Oracle.read(table)),
@@ -105,16 +126,11 @@ fn differs<T: PartialEq + std::fmt::Debug>(what: &str, given: T, right: T) -> Op
     (given != right).then(|| format!("{what}: {given:?} given, {right:?} right"))
 }
 
-/// A refusal by its number alone.
-fn number<T>(answer: Result<T, Refusal>) -> Result<T, u8> {
-    answer.map_err(|refusal| refusal.number)
-}
-
 fn start_differs(machine: &dyn Machine, input: &Scenario) -> Option<String> {
     let mut given = input.words.clone();
     let mut right = input.words.clone();
-    let answer = number(machine.start(&input.table, &mut given));
-    let due = number(Oracle.start(&input.table, &mut right));
+    let answer = machine.start(&input.table, &mut given);
+    let due = Oracle.start(&input.table, &mut right);
     differs("start", answer, due).or_else(|| words_differ("start", &given, &right))
 }
 
@@ -127,15 +143,22 @@ fn words_differ(what: &str, given: &[i32], right: &[i32]) -> Option<String> {
     ))
 }
 
+/// What stands in the room for main's values before it is lent.
+const ROOM: [i32; 4] = [-11, 12, -13, 14];
+/// What stands in the place of the number made before it is lent.
+const UNWRITTEN: u64 = u64::MAX - 1;
+
 /// Main's values, and that a thread said to step can step.
 fn questions_differ(machine: &dyn Machine, table: &[u8], words: &[i32]) -> Vec<String> {
+    let (mut given_room, mut right_room) = (ROOM, ROOM);
     let values = differs(
         "values",
-        number(machine.values(table, words)),
-        number(Oracle.values(table, words)),
-    );
-    let given = number(machine.can_step(table, words));
-    let right = number(crate::steppable(table, words));
+        machine.values(table, words, &mut given_room),
+        Oracle.values(table, words, &mut right_room),
+    )
+    .or_else(|| differs("room for values", given_room, right_room));
+    let given = machine.can_step(table, words);
+    let right = crate::steppable(table, words);
     let fits = match (&given, &right) {
         (Ok(Some(thread)), Ok(threads)) => threads.contains(thread),
         (Ok(None), Ok(threads)) => threads.is_empty(),
@@ -171,16 +194,18 @@ fn choice_differs(
     let what = format!("choice {kind} {thread}");
     let mut given = input.words.clone();
     let mut right = input.words.clone();
-    let answer = number(machine.choose(&input.table, &mut given, kind, thread));
-    let due = number(Oracle.choose(&input.table, &mut right, kind, thread));
+    let answer = machine.choose(&input.table, &mut given, kind, thread);
+    let due = Oracle.choose(&input.table, &mut right, kind, thread);
     differs(&what, answer, due).or_else(|| words_differ(&what, &given, &right))
 }
 
 fn schedule_differs(machine: &dyn Machine, input: &Scenario, choices: &[Choice]) -> Option<String> {
-    let by_number = |(made, refusal): (usize, Option<Refusal>)| (made, refusal.map(|r| r.number));
     let mut given = input.words.clone();
     let mut right = input.words.clone();
-    let answer = by_number(machine.schedule(&input.table, &mut given, choices));
-    let due = by_number(Oracle.schedule(&input.table, &mut right, choices));
-    differs("schedule", answer, due).or_else(|| words_differ("schedule", &given, &right))
+    let (mut given_made, mut right_made) = (UNWRITTEN, UNWRITTEN);
+    let answer = machine.schedule(&input.table, &mut given, choices, &mut given_made);
+    let due = Oracle.schedule(&input.table, &mut right, choices, &mut right_made);
+    differs("schedule", answer, due)
+        .or_else(|| differs("number made", given_made, right_made))
+        .or_else(|| words_differ("schedule", &given, &right))
 }

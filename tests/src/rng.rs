@@ -12,6 +12,11 @@ impl Rng {
         Rng { state: seed }
     }
 
+    /// A generator for one round of a test of a seed.
+    pub fn of_round(seed: u64, round: u64) -> Self {
+        Rng::new(Rng::new(seed).bits() ^ Rng::new(round).bits())
+    }
+
     /// The next 64 bits.
     pub fn bits(&mut self) -> u64 {
         self.state = self.state.wrapping_add(0x9E37_79B9_7F4A_7C15);

@@ -1,84 +1,102 @@
-//! Puts random tables to the library and to the second implementation and
-//! compares the answers, refusals with their places.
+//! Puts random tables, pools and choices to every call of the library and of
+//! the second implementation and compares the answers, refusals with their
+//! places, and what is written; then asserts demand 3 of the library on random
+//! runs of accepted tables.
 //!
 //! `compare SEED COUNT`; the last line is `compare: N passed, M failed`.
 
-use mezdaulk::Refusal as Given;
-use oracle::gen::scenario;
-use oracle::refusal::{Place, Refusal};
+mod library;
+mod runs;
+
+use library::Library;
+use oracle::encode::encode;
+use oracle::gen::faults::{self, Kind};
+use oracle::gen::{programs, scenario, Source, NOTES};
+use oracle::machine::{differences, tables_differ};
 use oracle::rng::Rng;
-use std::collections::BTreeMap;
+use oracle::table::{Program, TABLE_MAX};
+use oracle::tally::Tally;
+use oracle::watch::{self, join_event};
+use oracle::POOL_WORDS;
+use std::process::ExitCode;
 
-/// The refusal that the library gave, as the second implementation writes it.
-fn refusal(given: Given) -> Refusal {
-    match given {
-        Given::Plain(number) => Refusal::plain(number),
-        Given::Byte(at) => Refusal::byte(at),
-        Given::Fault(number, function, block) => {
-            Refusal::fault(number, function.into(), block.into())
-        }
-    }
-}
+const FULL_SIZE: &str = "table of 16384 bytes";
+const PAIR: &str = "two faults around a block";
+const LONG: &str = "schedule of 500 choices";
 
-/// What was compared, what differed, and how often each number came.
-#[derive(Default)]
-struct Tally {
-    passed: u64,
-    failed: u64,
-    numbers: BTreeMap<u8, u64>,
-}
-
-impl Tally {
-    fn compare(
-        &mut self,
-        what: &str,
-        table: &[u8],
-        given: Result<(), Given>,
-        right: Result<(), Refusal>,
-    ) {
-        let given = given.map_err(refusal);
-        if let Err(Refusal { number, place }) = right {
-            assert!(number < 4 || matches!(place, Place::Block(_, _)));
-            *self.numbers.entry(number).or_default() += 1;
-        }
-        if given == right {
-            self.passed += 1;
-        } else {
-            self.failed += 1;
-            println!("{what}: {given:?} given, {right:?} right: {table:02x?}");
-        }
-    }
-
-    fn table(&mut self, table: &[u8]) {
-        self.compare(
-            "read",
-            table,
-            mezdaulk::read(table),
-            oracle::read(table).map(|_| ()),
-        );
-        self.compare("check", table, mezdaulk::check(table), oracle::check(table));
-    }
-}
-
-fn main() {
+fn main() -> ExitCode {
     let mut words = std::env::args().skip(1);
     let mut number = |other| words.next().map_or(other, |w| w.parse().expect("a number"));
     let (seed, count): (u64, u64) = (number(1), number(3000));
-    let mut rng = Rng::new(seed);
-    let mut tally = Tally::default();
-    for _ in 0..count {
-        let input = scenario(&mut rng);
-        tally.table(&input.table);
-        for table in &input.more_tables {
-            tally.table(table);
-        }
+    let library = Library::default();
+    let mut tally = Tally::new("compare", events());
+    for round in 0..count {
+        tally.round = round;
+        let mut rng = Rng::of_round(seed, round);
+        compare_scenario(&mut tally, &library, &mut rng);
+        let program = programs::accepted(&mut rng);
+        compare_faults(&mut tally, &library, &mut rng, &program);
+        runs::check_run(&mut tally, &library, &mut rng, &program);
+        note_program(&mut tally, &program);
+        library.count(&mut tally);
     }
-    for number in 1..=11 {
-        if !tally.numbers.contains_key(&number) {
-            println!("refusal {number} never came");
-            tally.failed += 1;
-        }
+    tally.finish()
+}
+
+/// What must occur besides every rule and refusal.
+fn events() -> Vec<String> {
+    let mut events: Vec<String> = (0..=4).map(join_event).collect();
+    events.extend(Kind::ALL.map(|kind| format!("fault {kind:?}")));
+    events.extend(watch::SHAPES.map(String::from));
+    events.extend(watch::EVENTS.map(String::from));
+    events.extend(Source::ALL.map(|source| format!("scenario {source:?}")));
+    events.extend(NOTES.map(String::from));
+    let others = [FULL_SIZE, PAIR, LONG];
+    let run = [runs::RETURNED, runs::LONG, runs::FULL, runs::REFUSED];
+    events.extend(others.into_iter().chain(run).map(String::from));
+    events
+}
+
+/// Every call on one scenario.
+fn compare_scenario(tally: &mut Tally, library: &Library, rng: &mut Rng) {
+    let input = scenario(rng);
+    let found = differences(library, &input);
+    tally.expect(found.is_empty(), || {
+        format!("{found:?}: {:02x?}", input.table)
+    });
+    tally.event(&format!("scenario {:?}", input.source));
+    for note in &input.notes {
+        tally.event(note);
     }
-    println!("compare: {} passed, {} failed", tally.passed, tally.failed);
-    std::process::exit((tally.failed > 0).into());
+    if input.table.len() == TABLE_MAX {
+        tally.event(FULL_SIZE);
+    }
+    if input.choices.len() >= 500 && input.words.len() == POOL_WORDS {
+        tally.event(LONG);
+    }
+}
+
+/// Reading and checking with one fault of each kind in turn, and with two.
+fn compare_faults(tally: &mut Tally, library: &Library, rng: &mut Rng, program: &Program) {
+    let kind = Kind::ALL[tally.round as usize % Kind::ALL.len()];
+    let mut one = program.clone();
+    if faults::plant(rng, &mut one, kind).is_some() {
+        compare_table(tally, library, &encode(&one));
+        tally.event(&format!("fault {kind:?}"));
+    }
+    if let Some((two, ..)) = faults::plant_pair(rng, program) {
+        compare_table(tally, library, &encode(&two));
+        tally.event(PAIR);
+    }
+}
+
+fn compare_table(tally: &mut Tally, library: &Library, table: &[u8]) {
+    let found = tables_differ(library, table);
+    tally.expect(found.is_empty(), || format!("{found:?}: {table:02x?}"));
+}
+
+fn note_program(tally: &mut Tally, program: &Program) {
+    for shape in watch::shapes(program) {
+        tally.event(shape);
+    }
 }

@@ -6,12 +6,13 @@ use oracle::gen::faults::{self, Kind, Planted};
 use oracle::gen::schedules::{guided_choice, Choice, Policy};
 use oracle::gen::{bytes, programs, scenario, Scenario};
 use oracle::machine::{differences, Oracle};
-use oracle::pool::{Pool, Thread};
+use oracle::pool::Pool;
 use oracle::rng::Rng;
-use oracle::rules::{self, ended, transfer, Rule, PROMOTE, STEP};
-use oracle::table::{Program, Transfer, TABLE_MAX};
+use oracle::rules::{self, ended, Rule, PROMOTE, STEP};
+use oracle::table::{Program, TABLE_MAX};
+use oracle::tally::Tally;
+use oracle::watch::{self, join, join_event};
 use oracle::{Refusal, POOL_WORDS};
-use std::collections::BTreeMap;
 use std::env;
 use std::process::ExitCode;
 
@@ -24,28 +25,27 @@ fn main() -> ExitCode {
         eprintln!("usage: selfcheck SEED COUNT");
         return ExitCode::FAILURE;
     };
-    let mut tally = Tally::new(seed);
+    let mut tally = Tally::new("selfcheck", events());
     for round in 0..count {
         tally.round = round;
-        check_round(&mut tally);
+        check_round(&mut tally, &mut Rng::of_round(seed, round));
     }
     tally.finish()
 }
 
 /// One round: an accepted table and its run, planted faults, spoiled bytes and
 /// scenarios, all from the seed and the round's number.
-fn check_round(tally: &mut Tally) {
-    let mut rng = Rng::new(Rng::new(tally.seed).bits() ^ Rng::new(tally.round).bits());
-    let program = accepted_program(&mut rng, tally.round);
+fn check_round(tally: &mut Tally, rng: &mut Rng) {
+    let program = programs::accepted(rng);
     check_accepted(tally, &program);
-    check_run(tally, &mut rng, &program);
+    check_run(tally, rng, &program);
     for _ in 0..4 {
-        check_one_fault(tally, &mut rng, &program);
-        check_two_faults(tally, &mut rng, &program);
-        check_bytes(tally, &mut rng, &program);
+        check_one_fault(tally, rng, &program);
+        check_two_faults(tally, rng, &program);
+        check_bytes(tally, rng, &program);
     }
     for _ in 0..3 {
-        let input = scenario(&mut rng);
+        let input = scenario(rng);
         check_scenario(tally, &input);
         if tally.round.is_multiple_of(10) {
             let found = differences(&Oracle, &input);
@@ -54,113 +54,21 @@ fn check_round(tally: &mut Tally) {
     }
 }
 
-/// Well-formed programs, some of an exact size up to the largest.
-fn accepted_program(rng: &mut Rng, round: u64) -> Program {
-    match round % 50 {
-        7 => programs::well_formed_of_size(rng, TABLE_MAX),
-        17 => programs::well_formed_of_size(rng, TABLE_MAX - 1),
-        27 => {
-            let size = rng.between(3_000, TABLE_MAX);
-            programs::well_formed_of_size(rng, size)
-        }
-        _ => programs::well_formed(rng),
-    }
-}
-
-/// Counts of what passed, failed and occurred.
-struct Tally {
-    seed: u64,
-    round: u64,
-    passed: u64,
-    failed: u64,
-    refusals: [u64; 22],
-    rules: [u64; 11],
-    /// What else must occur, by name.
-    events: BTreeMap<String, u64>,
-}
-
-impl Tally {
-    fn new(seed: u64) -> Self {
-        let mut events = BTreeMap::new();
-        for count in 0..=4 {
-            events.insert(format!("join of {count} values"), 0);
-        }
-        for kind in Kind::ALL {
-            events.insert(format!("fault {kind:?}"), 0);
-        }
-        for name in [
-            "pool of 8 threads",
-            "promotion in a promoted thread",
-            "promotion in an older frame",
-            "four open calls in a frame",
-            "stack of 8 frames",
+/// What must occur besides every rule and refusal.
+fn events() -> Vec<String> {
+    let mut events: Vec<String> = (0..=4).map(join_event).collect();
+    events.extend(Kind::ALL.map(|kind| format!("fault {kind:?}")));
+    events.extend(watch::EVENTS.map(String::from));
+    events.extend(
+        [
             "run that returned",
             "table of 16384 bytes",
             "schedule of 50 made",
             "two faults in a transfer",
-        ] {
-            events.insert(name.to_string(), 0);
-        }
-        Tally {
-            seed,
-            round: 0,
-            passed: 0,
-            failed: 0,
-            refusals: [0; 22],
-            rules: [0; 11],
-            events,
-        }
-    }
-
-    /// Counts one assertion and shows the first that fail.
-    fn expect(&mut self, holds: bool, what: impl FnOnce() -> String) {
-        if holds {
-            self.passed += 1;
-        } else {
-            self.failed += 1;
-            if self.failed <= 20 {
-                println!("failed in round {}: {}", self.round, what());
-            }
-        }
-    }
-
-    fn refusal(&mut self, refusal: &Refusal) {
-        self.refusals[usize::from(refusal.number)] += 1;
-    }
-
-    fn answer(&mut self, answer: &Result<Rule, u8>) {
-        match answer {
-            Ok(rule) => self.rules[usize::from(rule.number())] += 1,
-            Err(number) => self.refusals[usize::from(*number)] += 1,
-        }
-    }
-
-    fn event(&mut self, name: &str) {
-        *self.events.entry(name.to_string()).or_insert(0) += 1;
-    }
-
-    /// Prints the counts; what never occurred is a failure.
-    fn finish(mut self) -> ExitCode {
-        let mut counts: Vec<(String, u64)> = Vec::new();
-        for rule in Rule::ALL {
-            let count = self.rules[usize::from(rule.number())];
-            counts.push((format!("rule {} {}", rule.number(), rule.name()), count));
-        }
-        for number in 1..=21 {
-            counts.push((format!("refusal {number}"), self.refusals[number]));
-        }
-        counts.extend(self.events.clone());
-        for (name, count) in counts {
-            println!("{name}: {count}");
-            self.expect(count > 0, || format!("{name} never occurs"));
-        }
-        println!("selfcheck: {} passed, {} failed", self.passed, self.failed);
-        if self.failed == 0 {
-            ExitCode::SUCCESS
-        } else {
-            ExitCode::FAILURE
-        }
-    }
+        ]
+        .map(String::from),
+    );
+    events
 }
 
 /// The table of a well-formed program reads back and is accepted.
@@ -194,7 +102,7 @@ fn check_run(tally: &mut Tally, rng: &mut Rng, program: &Program) {
         check_join(tally, program, &mut pool, choice);
         let before = pool.clone();
         let answer = rules::choose(program, &mut pool, choice.0, choice.1);
-        tally.answer(&answer);
+        tally.answer(answer.map(Rule::number));
         check_answer(tally, program, &before, &pool, choice, &answer);
         tally.expect(answer != Err(19), || format!("{choice:?} is stuck"));
         check_progress(tally, program, &pool);
@@ -207,7 +115,9 @@ fn check_run(tally: &mut Tally, rng: &mut Rng, program: &Program) {
             format!("words differ after {choice:?}")
         });
         words = pool.to_words();
-        note_pool(tally, &pool);
+        for event in watch::reached(&pool) {
+            tally.event(event);
+        }
         if ended(program, &pool.root).is_some() {
             left = left.min(3);
         }
@@ -246,27 +156,8 @@ fn check_join(tally: &mut Tally, program: &Program, pool: &mut Pool, (kind, thre
         tally.expect(taken == Some(brought), || {
             format!("a join brings {brought} values to a block of {taken:?}")
         });
-        tally.event(&format!("join of {brought} values"));
+        tally.event(&join_event(brought));
     }
-}
-
-/// What a thread's join brings and what the promoted block takes, if the
-/// thread is at a promoted spoin and its newest child is ended.
-fn join(program: &Program, thread: &Thread) -> Option<(usize, Option<usize>)> {
-    let frame = thread.current();
-    let Some(Transfer::Spoin { promoted, .. }) = transfer(program, thread) else {
-        return None;
-    };
-    if frame.calls.is_empty() || frame.has_unpromoted() {
-        return None;
-    }
-    let child = thread.children.last()?;
-    ended(program, child)?;
-    let Some(Transfer::Return { arguments }) = transfer(program, child) else {
-        return None;
-    };
-    let block = program.functions[frame.function].block(*promoted);
-    Some((arguments.len(), block.map(|b| b.parameters.len())))
 }
 
 /// What every answer to a choice must be: a refusal changes nothing, a rule
@@ -315,32 +206,6 @@ fn check_answer(
 
 fn frame_count(pool: &Pool) -> i32 {
     pool.threads().iter().map(|t| t.frames.len() as i32).sum()
-}
-
-/// Counts what a run reaches.
-fn note_pool(tally: &mut Tally, pool: &Pool) {
-    let threads = pool.threads();
-    if threads.len() == 8 {
-        tally.event("pool of 8 threads");
-    }
-    if threads[1..]
-        .iter()
-        .any(|thread| !thread.children.is_empty())
-    {
-        tally.event("promotion in a promoted thread");
-    }
-    for thread in &threads {
-        let (_, older) = thread.frames.split_last().expect("a thread has a frame");
-        if older.iter().any(|frame| frame.promoted > 0) {
-            tally.event("promotion in an older frame");
-        }
-        if thread.frames.iter().any(|frame| frame.calls.len() == 4) {
-            tally.event("four open calls in a frame");
-        }
-        if thread.frames.len() == 8 {
-            tally.event("stack of 8 frames");
-        }
-    }
 }
 
 /// One planted fault is found at its place.
@@ -400,7 +265,7 @@ fn expect_fault(tally: &mut Tally, program: &Program, planted: &[Planted]) {
     }
     let refusal = oracle::check(&table).err();
     if let Some(refusal) = &refusal {
-        tally.refusal(refusal);
+        tally.refusal(refusal.number);
     }
     let found = planted.iter().any(|fault| Some(fault.refusal) == refusal);
     tally.expect(found, || format!("{planted:?} planted, {refusal:?} given"));
@@ -411,7 +276,7 @@ fn check_bytes(tally: &mut Tally, rng: &mut Rng, program: &Program) {
     let (table, known) = bytes::spoiled(rng, program);
     let refusal = oracle::read(&table).err();
     if let Some(refusal) = &refusal {
-        tally.refusal(refusal);
+        tally.refusal(refusal.number);
     }
     tally.expect(known.is_none() || known == refusal, || {
         format!("{known:?} due, {refusal:?} given")
@@ -459,7 +324,7 @@ fn check_start(tally: &mut Tally, input: &Scenario) {
 
 /// Every call on a table or words that are none gets the same refusal.
 fn check_undecoded(tally: &mut Tally, input: &Scenario, refusal: Refusal) {
-    tally.refusal(&refusal);
+    tally.refusal(refusal.number);
     let mut words = input.words.clone();
     let given = [
         oracle::choose(&input.table, &mut words, 0, 0).err(),
@@ -508,7 +373,7 @@ fn check_choices(tally: &mut Tally, input: &Scenario, program: &Program, pool: &
         let mut words = input.words.clone();
         let answer = oracle::choose(&input.table, &mut words, choice.0, choice.1)
             .map_err(|refusal| refusal.number);
-        tally.answer(&answer);
+        tally.answer(answer.map(Rule::number));
         let after = match Pool::from_words(program, &words) {
             Ok(after) => after,
             Err(refusal) => {

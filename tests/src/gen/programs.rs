@@ -90,6 +90,17 @@ pub fn well_formed(rng: &mut Rng) -> Program {
     }
 }
 
+/// A well-formed program, sometimes of an exact size up to the largest.
+pub fn accepted(rng: &mut Rng) -> Program {
+    let size = match rng.below(100) {
+        0 | 1 => TABLE_MAX,
+        2 => TABLE_MAX - 1,
+        3 => rng.between(3_000, TABLE_MAX),
+        _ => return well_formed(rng),
+    };
+    well_formed_of_size(rng, size)
+}
+
 /// A well-formed program whose table has exactly `size` bytes, 64 or more.
 pub fn well_formed_of_size(rng: &mut Rng, size: usize) -> Program {
     loop {

@@ -20,10 +20,38 @@ pub enum Source {
     Spoiled,
 }
 
+impl Source {
+    /// All sources.
+    pub const ALL: [Source; 4] = [
+        Source::Accepted,
+        Source::Faulty,
+        Source::Loose,
+        Source::Spoiled,
+    ];
+}
+
+/// Where a scenario's words and choices come from, by name.
+pub const NOTES: [&str; 10] = [
+    START, REACHED, ANY_POOL, BROKEN, CHANGED, FILLED, ARBITRARY, RESIZED, GUIDED, BLIND,
+];
+
+const START: &str = "pool at the start";
+const REACHED: &str = "pool reached by a run";
+const ANY_POOL: &str = "pool of any kind";
+const BROKEN: &str = "pool with a condition broken";
+const CHANGED: &str = "pool with one word changed";
+const FILLED: &str = "pool with an unused word set";
+const ARBITRARY: &str = "arbitrary words";
+const RESIZED: &str = "words of another length";
+const GUIDED: &str = "guided schedule";
+const BLIND: &str = "blind schedule";
+
 /// An input for every call.
 #[derive(Clone, Debug)]
 pub struct Scenario {
     pub source: Source,
+    /// Some of `NOTES`.
+    pub notes: Vec<&'static str>,
     pub table: Vec<u8>,
     /// More tables, faulty or spoiled, to be read and checked only.
     pub more_tables: Vec<Vec<u8>>,
@@ -42,21 +70,24 @@ pub fn scenario(rng: &mut Rng) -> Scenario {
         Source::Spoiled,
     ]);
     let program = match source {
-        Source::Accepted | Source::Spoiled => programs::well_formed(rng),
+        Source::Accepted | Source::Spoiled => programs::accepted(rng),
         Source::Faulty => faulty(rng),
         Source::Loose => programs::loose(rng),
     };
-    let (pool, choices) = pool_and_choices(rng, &program);
+    let mut notes = Vec::new();
+    let (pool, choices) = pool_and_choices(rng, &program, &mut notes);
     let more_tables = faulty_tables(rng, &program);
     let table = match source {
         Source::Spoiled => bytes::spoiled(rng, &program).0,
         _ => encode(&program),
     };
+    let words = spoil_some(rng, &program, pool, &mut notes);
     Scenario {
         source,
+        notes,
         table,
         more_tables,
-        words: spoil_some(rng, &program, pool),
+        words,
         choices,
     }
 }
@@ -93,36 +124,64 @@ pub fn faulty_tables(rng: &mut Rng, program: &Program) -> Vec<Vec<u8>> {
 }
 
 /// A pool at the start, reached or loose, and a schedule for it.
-fn pool_and_choices(rng: &mut Rng, program: &Program) -> (Pool, Vec<Choice>) {
+fn pool_and_choices(
+    rng: &mut Rng,
+    program: &Program,
+    notes: &mut Vec<&'static str>,
+) -> (Pool, Vec<Choice>) {
     let length = rng.below(60);
-    let pool = match rng.below(4) {
-        0 => Pool::start(),
-        1 => pools::reached(rng, program, length),
-        _ => pools::loose(rng, program),
+    let (note, pool) = match rng.below(4) {
+        0 => (START, Pool::start()),
+        1 => (REACHED, pools::reached(rng, program, length)),
+        _ => (ANY_POOL, pools::loose(rng, program)),
     };
-    let choices = if rng.chance(60) {
-        let length = rng.one_of([0, 1, 4, 30, 120]);
-        let refused = rng.chance(70);
-        guided_schedule(rng, program, &pool, length, refused)
-    } else {
-        blind_schedule(rng)
+    notes.push(note);
+    if !rng.chance(60) {
+        notes.push(BLIND);
+        return (pool, blind_schedule(rng));
+    }
+    let length = match rng.below(100) {
+        0 => 2_000,
+        _ => rng.one_of([0, 1, 4, 30, 120]),
     };
+    let refused = rng.chance(70);
+    let choices = guided_schedule(rng, program, &pool, length, refused);
+    notes.push(GUIDED);
     (pool, choices)
 }
 
 /// Words kept, changed in some places, of another length or arbitrary.
-fn spoil_some(rng: &mut Rng, program: &Program, mut pool: Pool) -> Vec<i32> {
+fn spoil_some(
+    rng: &mut Rng,
+    program: &Program,
+    mut pool: Pool,
+    notes: &mut Vec<&'static str>,
+) -> Vec<i32> {
     let what = rng.below(20);
     if what < 4 {
         pools::spoil(rng, program, &mut pool);
     }
     let mut words = pool.to_words();
-    match what {
-        3..=6 => pools::change_word(rng, &mut words),
-        7 => pools::fill_unused(rng, &pool, &mut words),
-        8 => return pools::arbitrary(rng),
-        9 => words.resize(rng.one_of([0, 1, POOL_WORDS - 1, POOL_WORDS + 1]), 0),
-        _ => {}
-    }
+    let note = match what {
+        0..=2 => BROKEN,
+        3..=6 => {
+            pools::change_word(rng, &mut words);
+            CHANGED
+        }
+        7 => {
+            pools::fill_unused(rng, &pool, &mut words);
+            FILLED
+        }
+        8 => {
+            words = pools::arbitrary(rng);
+            ARBITRARY
+        }
+        9 => {
+            words.resize(rng.one_of([0, 1, POOL_WORDS - 1, POOL_WORDS + 1]), 0);
+            RESIZED
+        }
+        _ => return words,
+    };
+    notes.push(note);
     words
 }

@@ -1,0 +1,78 @@
+//! The fast implementation put to the second implementation's inputs.
+
+use super::{Choice, Refusal};
+use oracle::gen::schedules;
+use oracle::machine::Machine;
+
+/// The fast implementation.
+pub struct Fast;
+
+fn given<T>(answer: Result<T, Refusal>) -> Result<T, oracle::Refusal> {
+    answer.map_err(|refusal| match refusal {
+        Refusal::Plain(number) => oracle::Refusal::plain(number),
+        Refusal::Byte(at) => oracle::Refusal::byte(at),
+        Refusal::Fault(number, function, block) => {
+            oracle::Refusal::fault(number, function.into(), block.into())
+        }
+    })
+}
+
+impl Machine for Fast {
+    fn read(&self, table: &[u8]) -> Result<(), oracle::Refusal> {
+        given(super::read(table))
+    }
+
+    fn check(&self, table: &[u8]) -> Result<(), oracle::Refusal> {
+        given(super::check(table))
+    }
+
+    fn start(&self, table: &[u8], pool: &mut [i32]) -> Result<(), oracle::Refusal> {
+        given(super::start(table, pool))
+    }
+
+    fn choose(
+        &self,
+        table: &[u8],
+        pool: &mut [i32],
+        kind: u64,
+        thread: u64,
+    ) -> Result<u8, oracle::Refusal> {
+        given(super::choose(table, pool, kind as u32, thread as u32))
+    }
+
+    fn can_step(&self, table: &[u8], pool: &[i32]) -> Result<Option<usize>, oracle::Refusal> {
+        given(super::which(table, pool))
+    }
+
+    fn values(
+        &self,
+        table: &[u8],
+        pool: &[i32],
+        room: &mut [i32; 4],
+    ) -> Result<Option<usize>, oracle::Refusal> {
+        given(super::values(table, pool, room))
+    }
+
+    fn schedule(
+        &self,
+        table: &[u8],
+        pool: &mut [i32],
+        choices: &[schedules::Choice],
+        made: &mut u64,
+    ) -> Result<(), oracle::Refusal> {
+        let choices: Vec<Choice> = choices
+            .iter()
+            .map(|&(kind, thread)| Choice {
+                kind: kind as u32,
+                thread: thread as u32,
+            })
+            .collect();
+        let (count, answer) = super::schedule(table, pool, &choices);
+        *made = count;
+        given(answer)
+    }
+
+    fn widest(&self) -> u64 {
+        u32::MAX.into()
+    }
+}
