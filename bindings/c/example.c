@@ -1,4 +1,4 @@
-/* Checks table B of the manual and runs it: the spork's call is promoted and joined, and main returns 7. Each answer is printed and held
+/* Checks table B of document 01 and runs it: the spork's call is promoted and joined, and main returns 7. Each answer is printed and held
  * to what it must be; the status is 1 if one is another. */
 #include <inttypes.h>
 #include <stdio.h>
