@@ -2,7 +2,10 @@
 use Prim.Native.Nat.{ℕ, zero, suc, _≤_, _<_}
 use native.Mathlib.Omega.{arith}
 use mathlib.Core.Path.{_≡_, refl, sym, ap, _∙_}
+use mathlib.Core.Bool.{true, false, cond}
 use mathlib.Core.List.{List, [], _∷_}
+use lib.Dec.{eqb}
+use borrow.Author.Tests.{eq-eqb, ne-eqb}
 use Rattle.model.specs.Read.{Parsed, Parser, next, byte, many, pick}
 use Rattle.model.specs.Read as Read
 use Rattle.model.specs.Syntax.{Atom, Expression}
@@ -52,9 +55,9 @@ pub value-bytes : (s : List ℕ) (at : ℕ) → skipOf (Read.value s at) ≡ ski
 unfolding Read.value Read.word Read.half many
 value-bytes s at = simp flat (search alike)
 
-pub variable-bytes : (s : List ℕ) (at : ℕ) → skipOf (Read.variable s at) ≡ skipOf (many (byte 0 15) 1 s at)
-unfolding Read.variable Read.temporary many
-variable-bytes s at = simp flat (search alike)
+variable-byte : (s : List ℕ) (at : ℕ) → skipOf (Read.variable s at) ≡ skipOf (Read.temporary s at)
+unfolding Read.variable
+variable-byte s at = sym (skip-last _ _ (Read.temporary s at) _ _ refl (λ a m. skip-ok _ _ m))
 
 spork-bytes : (s : List ℕ) (at : ℕ) → skipOf (Read.spork s at) ≡ skipOf (many (byte 0 255) 2 s at)
 unfolding Read.spork Read.name many
@@ -80,15 +83,6 @@ if-names : (s : List ℕ) (at : ℕ) → skipOf (Read.if s at) ≡ skipOf (next 
 unfolding Read.if Read.name many
 if-names s at = simp flat (search alike)
 
--- an expression of one operand, and of two
-unary-atoms : (e : Atom → Expression) (s : List ℕ) (at : ℕ) → skipOf (Read.unary e s at) ≡ skipOf (many Read.atom 1 s at)
-unfolding Read.unary many
-unary-atoms e s at = simp flat (search alike)
-
-binary-atoms : (e : Atom → Atom → Expression) (s : List ℕ) (at : ℕ) → skipOf (Read.binary e s at) ≡ skipOf (many Read.atom 2 s at)
-unfolding Read.binary many
-binary-atoms e s at = simp flat (search alike)
-
 -- a byte that was found is in its range
 pub found-range : (lo hi : ℕ) (s : List ℕ) (at : ℕ) (f : Found) (v m : ℕ) → byteOf f ≡ byte lo hi s at → f ≡ Found.Byte v m → v ≤ hi
 unfolding byteOf
@@ -99,28 +93,53 @@ pub atom-value : (s : List ℕ) (v m : ℕ) (r : Skip) → v ≡ 0 → r ≡ ski
 unfolding pick
 atom-value s v m r z e = e ∙ sym (value-bytes s m) ∙ ap (λ (k : ℕ). skipOf (pick (Read.value ∷ Read.variable ∷ []) k s m)) (sym z)
 
-pub atom-variable : (s : List ℕ) (at v m : ℕ) (r : Skip) (f : Found) → byteOf f ≡ byte 0 1 s at → f ≡ Found.Byte v m → (v ≡ 0 → ⊥) → r ≡ skipOf (many (byte 0 15) 1 s m) → r ≡ skipOf (pick (Read.value ∷ Read.variable ∷ []) v s m)
+pub atom-variable : (s : List ℕ) (at v m : ℕ) (r : Skip) (f : Found) → byteOf f ≡ byte 0 1 s at → f ≡ Found.Byte v m → (v ≡ 0 → ⊥) → r ≡ skipOf (Read.temporary s m) → r ≡ skipOf (pick (Read.value ∷ Read.variable ∷ []) v s m)
 unfolding pick
 atom-variable s at v m r f b a z e =
     let h : v ≤ 1 = found-range 0 1 s at f v m b a in
     let o : v ≢ 0 = z in
     let i : v ≡ 1 = omega arith in
-    e ∙ sym (variable-bytes s m) ∙ ap (λ (k : ℕ). skipOf (pick (Read.value ∷ Read.variable ∷ []) k s m)) (sym i)
+    e ∙ sym (variable-byte s m) ∙ ap (λ (k : ℕ). skipOf (pick (Read.value ∷ Read.variable ∷ []) k s m)) (sym i)
 
-abbrev kinds : List (Parser Expression)
+abbrev pub kinds : List (Parser Expression)
 kinds = Read.unary Expression.atom ∷ Read.unary Expression.minus ∷ Read.binary Expression.plus ∷ Read.binary Expression.less ∷ []
 
-operands-atoms : (v : ℕ) (s : List ℕ) (m : ℕ) → v ≤ 3 → skipOf (many Read.atom (operands v) s m) ≡ skipOf (pick kinds v s m)
+-- an atom, and where there are two operands another
+abbrev atoms : ℕ → Parser Atom
+atoms n = Read._>>=_ Read.atom λ a. λ s at. cond (eqb n 2) (Read.atom s at) (Parsed.ok a at)
+
+unary-atoms : (e : Atom → Expression) (s : List ℕ) (at : ℕ) → skipOf (atoms 1 s at) ≡ skipOf (Read.unary e s at)
+unfolding Read.unary
+unary-atoms e s at = search alike
+
+binary-atoms : (e : Atom → Atom → Expression) (s : List ℕ) (at : ℕ) → skipOf (atoms 2 s at) ≡ skipOf (Read.binary e s at)
+unfolding Read.binary
+binary-atoms e s at = same-next _ _ _ _ (Read.atom s at) _ _ _ refl (λ a c m. skip-last _ _ (Read.atom s m) _ _ refl (λ b k. skip-ok _ _ k))
+
+operands-atoms : (v : ℕ) (s : List ℕ) (m : ℕ) → v ≤ 3 → skipOf (atoms (operands v) s m) ≡ skipOf (pick kinds v s m)
 unfolding pick operands
-operands-atoms zero s m h = sym (unary-atoms _ s m)
-operands-atoms (suc zero) s m h = sym (unary-atoms _ s m)
-operands-atoms (suc (suc zero)) s m h = sym (binary-atoms _ s m)
-operands-atoms (suc (suc (suc zero))) s m h = sym (binary-atoms _ s m)
+operands-atoms zero s m h = unary-atoms _ s m
+operands-atoms (suc zero) s m h = unary-atoms _ s m
+operands-atoms (suc (suc zero)) s m h = binary-atoms _ s m
+operands-atoms (suc (suc (suc zero))) s m h = binary-atoms _ s m
 operands-atoms (suc (suc (suc (suc v)))) s m h = absurd (omega arith)
 
-pub expression-atoms : (s : List ℕ) (at v m n : ℕ) (r : Skip) (f : Found) → byteOf f ≡ byte 0 3 s at → f ≡ Found.Byte v m → n ≡ operands v → r ≡ skipOf (many Read.atom n s m) → r ≡ skipOf (pick (Read.unary Expression.atom ∷ Read.unary Expression.minus ∷ Read.binary Expression.plus ∷ Read.binary Expression.less ∷ []) v s m)
-expression-atoms s at v m n r f b a q e =
-    e ∙ ap (λ (k : ℕ). skipOf (many Read.atom k s m)) q ∙ operands-atoms v s m (found-range 0 3 s at f v m b a)
+module _ (s : List ℕ) (at v m : ℕ) (f : Found) (q : Skip) (b : byteOf f ≡ byte 0 3 s at) (a : f ≡ Found.Byte v m) (e : q ≡ skipOf (Read.atom s m)) where
+  behind : (r : Skip) → r ≡ skipOf (atoms (operands v) s m) → r ≡ skipOf (pick kinds v s m)
+  behind r h = h ∙ operands-atoms v s m (found-range 0 3 s at f v m b a)
+
+  pub first-bad : (x : ℕ) → q ≡ Skip.Bad x → Skip.Bad x ≡ skipOf (pick kinds v s m)
+  first-bad x z = behind _ (skip-else _ _ (Read.atom s m) _ x (sym e ∙ z))
+
+  pub one-atom : (k n : ℕ) → q ≡ Skip.At k → n ≡ operands v → (n ≡ 2 → ⊥) → Skip.At k ≡ skipOf (pick kinds v s m)
+  one-atom k n z o u =
+      let w : eqb (operands v) 2 ≡ false = ne-eqb (operands v) 2 (λ d. u (o ∙ d)) in
+      behind _ (skip-then _ _ (Read.atom s m) _ _ q k e z (λ x. rw w (skip-ok _ x k)))
+
+  pub two-atoms : (k n : ℕ) (r : Skip) → q ≡ Skip.At k → n ≡ operands v → n ≡ 2 → r ≡ skipOf (Read.atom s k) → r ≡ skipOf (pick kinds v s m)
+  two-atoms k n r z o u h =
+      let w : eqb (operands v) 2 ≡ true = eq-eqb (operands v) 2 (sym o ∙ u) in
+      behind _ (skip-then _ _ (Read.atom s m) _ _ q k e z (λ x. rw w h))
 
 -- what stands behind a transfer's kind
 module _ (s : List ℕ) (at kind : ℕ) (r : Skip) where
@@ -189,6 +208,6 @@ name-then B s at k r q m e a h = skip-then _ _ (byte 0 255 s at) k r q m (e ∙ 
 pub name-bad : (s : List ℕ) (at : ℕ) (q : Skip) (x : ℕ) → q ≡ skipOf (many (byte 0 255) 1 s at) → q ≡ Skip.Bad x → skipOf (byte 0 255 s at) ≡ Skip.Bad x
 name-bad s at q x e a = name-bytes s at ∙ sym e ∙ a
 
-pub ruleset kinds-of = (name-then, name-bad, atom-value, atom-variable, expression-atoms, half-then, half-bad, skips)
+pub ruleset kinds-of = (name-then, name-bad, atom-value, atom-variable, first-bad, one-atom, two-atoms, half-then, half-bad, skips)
 
 pub ruleset transfers = (goto-skip, if-skip, call-skip, return-skip, spork-skip, spoin-skip, other-skip, if-then, if-else, call-then, call-else, arms)

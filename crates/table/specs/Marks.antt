@@ -1,7 +1,7 @@
 -- What the walk over a table keeps as it goes: the places of functions, spawn calls and blocks.
 use Prim.Native.Nat.{ℕ, zero, suc, _+_, _*_, min}
 use mathlib.Core.Path.{_≡_}
-use mathlib.Core.List.{List, [], _∷_}
+use mathlib.Core.List.{List}
 use lib.ListN.{set, replicate}
 use Rattle.model.specs.Read.{Parsed, Parser, byte, many, spawnCall, block, function}
 use Rattle.model.specs.Read as Read

@@ -32,6 +32,16 @@ pub fn byte(s: &[u8], at: usize, lo: usize, hi: usize) -> Found
     Found::Byte(b, at + 1)
 }
 
+// A temporary: 0 to 15.
+pub fn temporary(s: &[u8], at: usize) -> Skip
+    ensures { λ r. ⌜ r ≡ skipOf (Read.temporary (now (s .entry)) at) ⌝ }
+{
+    match byte(s, at, 0, 15) {
+        Found::Byte(_, next) => Skip::At(next),
+        Found::Wrong(p) => Skip::Bad(p),
+    }
+}
+
 // n temporaries.
 pub fn temporaries(s: &[u8], at: usize, n: usize) -> Skip
     ensures { λ r. ⌜ r ≡ skipOf (Read.many Read.temporary n (now (s .entry)) at) ⌝ }
@@ -82,34 +92,28 @@ pub fn atom(s: &[u8], at: usize) -> Skip
             if kind == 0 {
                 pass(s, k, 4)
             } else {
-                temporaries(s, k, 1)
+                temporary(s, k)
             }
         }
         Found::Wrong(p) => Skip::Bad(p),
     }
 }
 
-pub fn atoms(s: &[u8], at: usize, n: usize) -> Skip
-    ensures { λ r. ⌜ r ≡ skipOf (Read.many Read.atom n (now (s .entry)) at) ⌝ }
-{
-    let mut left = n;
-    let mut k = at;
-    while 0 < left {
-        let next = match atom(s, k) {
-            Skip::At(next) => next,
-            Skip::Bad(p) => return Skip::Bad(p),
-        };
-        k = next;
-        left -= 1;
-    }
-    Skip::At(k)
-}
-
 pub fn expression(s: &[u8], at: usize) -> Skip
     ensures { λ r. ⌜ r ≡ skipOf (Read.expression (now (s .entry)) at) ⌝ }
 {
     match byte(s, at, 0, 3) {
-        Found::Byte(kind, k) => atoms(s, k, bytes::operands(kind)),
+        Found::Byte(kind, k) => {
+            let next = match atom(s, k) {
+                Skip::At(next) => next,
+                Skip::Bad(p) => return Skip::Bad(p),
+            };
+            if bytes::operands(kind) == 2 {
+                atom(s, next)
+            } else {
+                Skip::At(next)
+            }
+        }
         Found::Wrong(p) => Skip::Bad(p),
     }
 }

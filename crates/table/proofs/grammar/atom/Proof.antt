@@ -6,7 +6,7 @@ use Rattle.table.proofs.grammar.atom.Statement.{statement}
 use Rattle.table.proofs.grammar.atom.Tie as tie
 
 pub atom-spec : {M : Type 1} → statement M
-unfolding Read.atom Read.temporary
+unfolding Read.atom
 atom-spec =
     tie.close
     (tie.spec

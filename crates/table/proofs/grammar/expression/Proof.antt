@@ -1,4 +1,4 @@
--- `table::grammar::expression`: a kind, then as many atoms as it has operands.
+-- `table::grammar::expression`: a kind, then an atom, and another where it has two operands.
 use borrow.Author.Needs.{needs}
 use Rattle.model.specs.Read as Read
 use Rattle.table.proofs.Rules.{kinds-of}
@@ -13,7 +13,12 @@ expression-spec =
     (λ c κs. search needs)
     (λ c. search needs)
     (λ c κs. search needs)
+    (λ c. search needs)
+    (λ c. search needs)
+    (λ c. search kinds-of)
+    (λ c κs. search needs)
     (λ c κs. search needs)
     (λ c. search needs)
+    (λ c. search kinds-of)
     (λ c. search kinds-of)
     (λ c. search kinds-of))
