@@ -58,5 +58,10 @@ const OPERANDS: [usize; 4] = [1, 1, 2, 2];
 pub fn operands(kind: usize) -> usize
     ensures { λ r. ⌜ r ≡ operands kind ⌝ }
 {
-    if kind < 4 { OPERANDS[kind] } else { 2 }
+    match kind {
+        0 => OPERANDS[0],
+        1 => OPERANDS[1],
+        2 => OPERANDS[2],
+        _ => OPERANDS[3],
+    }
 }

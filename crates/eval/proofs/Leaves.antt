@@ -1,10 +1,10 @@
 -- Facts that the code's leaves rest on: sets of temporaries, and the values of expressions by kind.
-use Prim.Native.Nat.{ℕ, zero, suc, _*_, _/_, _%_, _^_, _≤_, _<_}
+use Prim.Native.Nat.{ℕ, zero, suc, _/_, _%_, _^_, _≤_, _<_, min}
 use mathlib.Core.Path.{_≡_, refl, sym, ap, _∙_}
-use mathlib.Core.Bool.{Bool, true, false, not}
+use mathlib.Core.Bool.{Bool, true, false, not, true≢false}
 use mathlib.Core.Option.{Option, none, some}
 use mathlib.Core.List.{List}
-use native.Mathlib.Nat.{div-eq-of-lt, min-eq-left, min-eq-right, min-le-right, mod-eq-of-lt, one-mul}
+use native.Mathlib.Nat.{div-eq-of-lt, min-le-right}
 use native.Mathlib.Omega.{arith}
 use borrow.Author.Tests.{eq-eqb, ne-eqb, not-true, not-false}
 use borrow.Author.Needs.{sfits-of}
@@ -13,7 +13,7 @@ use denote.Struct.Declared.{row}
 use mir.Val.{Val, SFits, toZ, ofZ}
 use mir.Facts.{toZ-ofZ}
 use mir.Syntax.{w32}
-use lib.Pow.{pow-mono, pow-lt}
+use lib.Pow.{pow-mono}
 use lib.IntN.{ℤ, pos}
 use lib.Signed.{ltZ}
 use lib.ListN.{getD}
@@ -25,8 +25,8 @@ use Rattle.model.specs.Frames.{when, look, evalAtom, eval}
 use Rattle.eval.specs.declared.Value.{Value}
 use Rattle.eval.proofs.Value as single
 use Rattle.bytes.specs.Bytes.{byteAt, past, wordAt, operands}
-use Rattle.eval.specs.Code.{countAt, atomOf, atomAt, atomEnd, expressionOf, secondAt, expressionAt, expressionEnd}
-use Rattle.eval.specs.Given.{optional, valueOf, applied}
+use Rattle.eval.specs.Code.{most, countAt, atomOf, atomAt, atomEnd, expressionOf, secondAt, expressionAt, expressionEnd}
+use Rattle.eval.specs.Given.{optional, valueOf, Evaluates, applied}
 
 -- the value of a temporary: bound, unbound, no temporary at all
 module _ (k : Pool.Frame) (x : ℕ) {Γ : ℕ} (e : Γ ≡ k .bound) where
@@ -127,13 +127,9 @@ less-false m n f g e = let h : ltZ m n ≡ false = rw (toZ-ofZ f, toZ-ofZ g) at 
 
 -- what the code answers, from what it read: each law has the shape of one of its returns
 module _ (s : List ℕ) (at : ℕ) where
-  pub count-few : {n : ℕ} → n ≡ byteAt s at → n < 8 → n ≡ countAt s at
+  pub count-is : {n r : ℕ} → n ≡ byteAt s at → r ≡ min n most → r ≡ countAt s at
   unfolding countAt
-  count-few e h = e ∙ sym (min-eq-left (omega arith))
-
-  pub count-most : {n : ℕ} → n ≡ byteAt s at → 8 ≤ n → 8 ≡ countAt s at
-  unfolding countAt
-  count-most e h = sym (min-eq-right (omega arith))
+  count-is e d = d ∙ ap (λ (n : ℕ). min n most) e
 
   pub count-le : countAt s at ≤ 8
   unfolding countAt
@@ -173,44 +169,48 @@ module _ (s : List ℕ) (at : ℕ) where
         go (suc n) z = refl
 
     -- an expression: an atom unbound; one atom; two
-    pub eval-unbound : {kind f : ℕ} (m : Value) → kind ≡ byteAt s at → f ≡ past at 1 → valueOf m ≡ evalAtom k (atomAt s f) → not (m .ok) ≡ true → valueOf m ≡ eval k (expressionAt s at)
+    pub eval-unbound : {kind f : ℕ} (m : Value) → kind ≡ byteAt s at → f ≡ past at 1 → valueOf m ≡ evalAtom k (atomAt s f) → not (m .ok) ≡ true → (v : ℤ) (e : ℕ) → Evaluates k s at (record { ok = false; value = v; end = e })
     unfolding expressionAt
-    eval-unbound {kind} {f} m e₁ e₂ e₃ h =
-        let o = not-true (m .ok) h in
-        let z : evalAtom k (atomAt s (past at 1)) ≡ none = ap (λ (i : ℕ). evalAtom k (atomAt s i)) (sym e₂) ∙ value-none m _ e₃ o in
-        ap (λ (b : Bool). optional b (m .value)) o ∙ sym (eval-first k (byteAt s at) _ _ z)
+    eval-unbound {kind} {f} m e₁ e₂ e₃ h v e =
+        let z : evalAtom k (atomAt s (past at 1)) ≡ none = ap (λ (i : ℕ). evalAtom k (atomAt s i)) (sym e₂) ∙ value-none m _ e₃ (not-true (m .ok) h) in
+        record { is = sym (eval-first k (byteAt s at) _ _ z); end = λ t. absurd (true≢false (sym t)) }
 
-    pub eval-unary : {kind f o : ℕ} {r : ℤ} (m : Value) (w : ℤ) → SFits w32 r → SFits w32 (m .value) → kind ≡ byteAt s at → f ≡ past at 1 → valueOf m ≡ evalAtom k (atomAt s f) → not (m .ok) ≡ false → o ≡ operands kind → (o ≡ 2 → ⊥) → r ≡ applied kind (toZ w32 (ofZ w32 (m .value))) w → some (toZ w32 (ofZ w32 r)) ≡ eval k (expressionAt s at)
+    pub eval-unary : {kind f a o : ℕ} {r : ℤ} (m : Value) (w : ℤ) → SFits w32 r → SFits w32 (m .value) → kind ≡ byteAt s at → f ≡ past at 1 → valueOf m ≡ evalAtom k (atomAt s f) → a ≡ atomEnd s f → not (m .ok) ≡ false → o ≡ operands kind → (o ≡ 2 → ⊥) → r ≡ applied kind (toZ w32 (ofZ w32 (m .value))) w → Evaluates k s at (record { ok = true; value = toZ w32 (ofZ w32 r); end = a })
     unfolding expressionAt
-    eval-unary {kind} {f} {o} {r} m w g i e₁ e₂ e₃ h e₄ d e₅ =
+    eval-unary {kind} {f} {a} {o} {r} m w g i e₁ e₂ e₃ e₆ h e₄ d e₅ =
         let z : evalAtom k (atomAt s (past at 1)) ≡ some (m .value) = ap (λ (i : ℕ). evalAtom k (atomAt s i)) (sym e₂) ∙ value-some m _ e₃ (not-false (m .ok) h) in
         let q : operands (byteAt s at) ≡ 2 → ⊥ = λ y. d (e₄ ∙ ap operands e₁ ∙ y) in
-        ap some (toZ-ofZ g ∙ e₅ ∙ ap (λ (v : ℤ). applied kind v w) (toZ-ofZ i) ∙ ap (λ (i : ℕ). applied i (m .value) w) e₁) ∙ sym (eval-one k (byteAt s at) _ _ (m .value) w q z)
+        record {
+          is =
+              ap some (toZ-ofZ g ∙ e₅ ∙ ap (λ (v : ℤ). applied kind v w) (toZ-ofZ i) ∙ ap (λ (i : ℕ). applied i (m .value) w) e₁)
+              ∙ sym (eval-one k (byteAt s at) _ _ (m .value) w q z);
+          end = λ t. end-one e₂ e₆ e₁ e₄ d;
+        }
 
-    pub eval-half-bound : {kind f a o : ℕ} (m n : Value) → kind ≡ byteAt s at → f ≡ past at 1 → valueOf m ≡ evalAtom k (atomAt s f) → not (m .ok) ≡ false → o ≡ operands kind → o ≡ 2 → a ≡ atomEnd s f → valueOf n ≡ evalAtom k (atomAt s a) → not (n .ok) ≡ true → valueOf n ≡ eval k (expressionAt s at)
+    pub eval-half-bound : {kind f a o : ℕ} (m n : Value) → kind ≡ byteAt s at → f ≡ past at 1 → valueOf m ≡ evalAtom k (atomAt s f) → not (m .ok) ≡ false → o ≡ operands kind → o ≡ 2 → a ≡ atomEnd s f → valueOf n ≡ evalAtom k (atomAt s a) → not (n .ok) ≡ true → (v : ℤ) (e : ℕ) → Evaluates k s at (record { ok = false; value = v; end = e })
     unfolding expressionAt secondAt
-    eval-half-bound {kind} {f} {a} {o} m n e₁ e₂ e₃ h e₄ d e₅ e₆ h′ =
+    eval-half-bound {kind} {f} {a} {o} m n e₁ e₂ e₃ h e₄ d e₅ e₆ h′ v e =
         let z : evalAtom k (atomAt s (past at 1)) ≡ some (m .value) = ap (λ (i : ℕ). evalAtom k (atomAt s i)) (sym e₂) ∙ value-some m _ e₃ (not-false (m .ok) h) in
-        let o′ = not-true (n .ok) h′ in
-        let y : evalAtom k (atomAt s (atomEnd s (past at 1))) ≡ none = ap (λ (i : ℕ). evalAtom k (atomAt s i)) (ap (atomEnd s) (sym e₂) ∙ sym e₅) ∙ value-none n _ e₆ o′ in
+        let y : evalAtom k (atomAt s (atomEnd s (past at 1))) ≡ none = ap (λ (i : ℕ). evalAtom k (atomAt s i)) (ap (atomEnd s) (sym e₂) ∙ sym e₅) ∙ value-none n _ e₆ (not-true (n .ok) h′) in
         let q : operands (byteAt s at) ≡ 2 = ap operands (sym e₁) ∙ sym e₄ ∙ d in
-        ap (λ (b : Bool). optional b (n .value)) o′ ∙ sym (eval-second k (byteAt s at) _ _ (m .value) q z y)
+        record { is = sym (eval-second k (byteAt s at) _ _ (m .value) q z y); end = λ t. absurd (true≢false (sym t)) }
 
-    pub eval-binary : {kind f a o : ℕ} {r : ℤ} (m n : Value) → SFits w32 r → SFits w32 (m .value) → SFits w32 (n .value) → kind ≡ byteAt s at → f ≡ past at 1 → valueOf m ≡ evalAtom k (atomAt s f) → not (m .ok) ≡ false → o ≡ operands kind → o ≡ 2 → a ≡ atomEnd s f → valueOf n ≡ evalAtom k (atomAt s a) → not (n .ok) ≡ false → r ≡ applied kind (toZ w32 (ofZ w32 (m .value))) (toZ w32 (ofZ w32 (n .value))) → some (toZ w32 (ofZ w32 r)) ≡ eval k (expressionAt s at)
+    pub eval-binary : {kind f a o b : ℕ} {r : ℤ} (m n : Value) → SFits w32 r → SFits w32 (m .value) → SFits w32 (n .value) → kind ≡ byteAt s at → f ≡ past at 1 → valueOf m ≡ evalAtom k (atomAt s f) → not (m .ok) ≡ false → o ≡ operands kind → o ≡ 2 → a ≡ atomEnd s f → valueOf n ≡ evalAtom k (atomAt s a) → b ≡ atomEnd s a → not (n .ok) ≡ false → r ≡ applied kind (toZ w32 (ofZ w32 (m .value))) (toZ w32 (ofZ w32 (n .value))) → Evaluates k s at (record { ok = true; value = toZ w32 (ofZ w32 r); end = b })
     unfolding expressionAt secondAt
-    eval-binary {kind} {f} {a} {o} {r} m n g i j e₁ e₂ e₃ h e₄ d e₅ e₆ h′ e₇ =
+    eval-binary {kind} {f} {a} {o} {b} {r} m n g i j e₁ e₂ e₃ h e₄ d e₅ e₆ e₈ h′ e₇ =
         let z : evalAtom k (atomAt s (past at 1)) ≡ some (m .value) = ap (λ (i : ℕ). evalAtom k (atomAt s i)) (sym e₂) ∙ value-some m _ e₃ (not-false (m .ok) h) in
         let y : evalAtom k (atomAt s (atomEnd s (past at 1))) ≡ some (n .value) = ap (λ (i : ℕ). evalAtom k (atomAt s i)) (ap (atomEnd s) (sym e₂) ∙ sym e₅) ∙ value-some n _ e₆ (not-false (n .ok) h′) in
         let q : operands (byteAt s at) ≡ 2 = ap operands (sym e₁) ∙ sym e₄ ∙ d in
         let both : applied kind (toZ w32 (ofZ w32 (m .value))) (toZ w32 (ofZ w32 (n .value))) ≡ applied kind (m .value) (n .value) = rw (toZ-ofZ i, toZ-ofZ j) in
-        ap some (toZ-ofZ g ∙ e₇ ∙ both ∙ ap (λ (i : ℕ). applied i (m .value) (n .value)) e₁) ∙ sym (eval-two k (byteAt s at) _ _ (m .value) (n .value) q z y)
+        record {
+          is =
+              ap some (toZ-ofZ g ∙ e₇ ∙ both ∙ ap (λ (i : ℕ). applied i (m .value) (n .value)) e₁)
+              ∙ sym (eval-two k (byteAt s at) _ _ (m .value) (n .value) q z y);
+          end = λ t. end-two e₂ e₅ e₁ e₄ d e₈;
+        }
 
 pub word-is : {r : ℤ} {m n : ℕ} → SFits w32 r → m ≡ n → r ≡ toZ w32 m → toZ w32 (ofZ w32 r) ≡ Values.signed n
 word-is f e d = toZ-ofZ f ∙ d ∙ ap (toZ w32) e
 
 pub plus-of : {m n : ℤ} → SFits w32 m → SFits w32 n → Values.plus (toZ w32 (ofZ w32 m)) (toZ w32 (ofZ w32 n)) ≡ Values.plus m n
 plus-of f g = rw (toZ-ofZ f, toZ-ofZ g)
-
--- a bit that is added, as code shifts it
-pub bit : (x : ℕ) → x < 16 → 1 * 2 ^ x % 65536 ≡ 2 ^ x
-bit x h = let l : 2 ^ x < 2 ^ 16 = pow-lt h in mod-eq-of-lt (omega arith) ∙ one-mul (2 ^ x)

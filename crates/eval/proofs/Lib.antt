@@ -2,3 +2,4 @@ pub mod Leaves
 pub mod Lists
 pub mod Decoding
 pub mod Binds
+pub mod Begins

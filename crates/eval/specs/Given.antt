@@ -1,17 +1,19 @@
 -- What the code's answers stand for, in the model's terms.
 use Prim.Native.Nat.{ℕ, zero, suc, _<_}
 use mathlib.Core.Bool.{Bool, true, false}
+use mathlib.Core.Path.{_≡_}
 use mathlib.Core.Option.{Option, none, some}
-use mathlib.Core.List.{List}
+use mathlib.Core.List.{List, []}
 use lib.IntN.{ℤ}
 use lib.ListN.{take}
 use Rattle.model.specs.Values as Values
 use Rattle.model.specs.Lists.{Each}
-use Rattle.model.specs.Pool.{Frame, temporaries}
-use Rattle.model.specs.Frames.{bindAll}
+use Rattle.model.specs.Pool.{Frame, temporaries, begin}
+use Rattle.model.specs.Frames.{eval, bindAll}
 use Rattle.frames.specs.InPlace.{FrameHeld, Became, Bound}
-use Rattle.eval.specs.Code.{countAt, argumentsAt}
+use Rattle.eval.specs.Code.{countAt, argumentsAt, expressionAt, expressionEnd}
 use Rattle.eval.specs.declared.Value.{Value}
+use Rattle.eval.specs.declared.Evaluated.{Evaluated}
 use Rattle.eval.specs.declared.Values.{Values}
 use Rattle.eval.specs.declared.Looked.{Looked}
 
@@ -22,6 +24,11 @@ optional false a = none
 
 abbrev pub valueOf : Value → Option ℤ
 valueOf v = optional (v .ok) (v .value)
+
+-- an expression's value in the frame m, and where an expression ends that has one
+pub record Evaluates (m : Frame) (s : List ℕ) (at : ℕ) (r : Evaluated) : Type 0 where
+  pub is : optional (r .ok) (r .value) ≡ eval m (expressionAt s at)
+  pub end : r .ok ≡ true → r .end ≡ expressionEnd s at
 
 abbrev pub valuesOf : Values → List ℤ
 valuesOf v = take (v .count) (v .at)
@@ -48,3 +55,7 @@ abbrev pub BindsAll : List ℕ → ℕ → List ℤ → ℕ → List ℤ → Lis
 BindsAll s at ws k v̄ ws′ =
     (m : Frame) → FrameHeld ws k m → Each (λ x. x < temporaries) (argumentsAt s at) →
     Became ws k (bindAll m (argumentsAt s at) (take (countAt s at) v̄)) ws′
+
+-- the empty frame at k is the first one of function g, with the first values of a buffer
+abbrev pub Begins : List ℤ → ℕ → ℕ → ℕ → List ℤ → List ℤ → Type 0
+Begins ws k g n v̄ ws′ = FrameHeld ws k (begin 0 []) → Became ws k (begin g (take n v̄)) ws′

@@ -1,15 +1,16 @@
 // A block's code read in place: bytes, atoms, expressions, statements and argument lists at an offset, and what they come to in
 // the frame at a place of the pool's words. An offset moves only within the table, so that every function takes any bytes.
+use frames::Pool;
 ghost use mathlib.Core.Path.{_≡_};
-ghost use Prim.Native.Nat.{_+_, _≤_};
+ghost use Prim.Native.Nat.{_+_, _≤_, min};
 ghost use lib.ListN.{length};
 ghost use Rattle.model.specs.Values.{signed};
 ghost use Rattle.model.specs.Frames as Frames;
 ghost use Rattle.model.specs.Pool.{frameWords};
 ghost use Rattle.frames.specs.InPlace.{frameAt};
-ghost use Rattle.eval.specs.Code.{most, countAt, argumentsAt, listEnd, atomAt, atomEnd, expressionAt, expressionEnd, statementEnd, statementsEnd, headEnd};
+ghost use Rattle.eval.specs.Code.{most, countAt, argumentsAt, listEnd, atomAt, atomEnd, expressionEnd, statementEnd, statementsEnd, headEnd};
 ghost use Rattle.bytes.specs.Bytes.{wordAt};
-ghost use Rattle.eval.specs.Given.{valueOf, lookedIn, applied, Binds, BindsAll};
+ghost use Rattle.eval.specs.Given.{valueOf, Evaluates, lookedIn, applied, Binds, BindsAll, Begins};
 
 // A value, or none.
 pub struct Value {
@@ -17,10 +18,21 @@ pub struct Value {
     pub value: i32,
 }
 
-// Values: the first of eight.
+// An expression's value, or none; and where an expression ends that has one.
+pub struct Evaluated {
+    pub ok: bool,
+    pub value: i32,
+    pub end: usize,
+}
+
+// Values: the first of eight, as many as are ever passed on.
 pub struct Values {
     pub count: u8,
-    pub at: [i32; 8],
+    pub at: [i32; Values::MOST],
+}
+
+impl Values {
+    pub const MOST: usize = 8;
 }
 
 // Values, or none.
@@ -41,7 +53,7 @@ pub fn look(ws: &[i32], k: usize, x: u8) -> Value
     requires { ⌜ k + frameWords ≤ length (now ws) ⌝ }
     ensures { λ r. ⌜ valueOf r ≡ Frames.look (frameAt (now (ws .entry)) k) x ⌝ }
 {
-    if x < 16 {
+    if (x as usize) < Pool::TEMPORARIES {
         if (frames::bound(ws, k) >> x) % 2 == 1 {
             return Value {
                 ok: true,
@@ -98,33 +110,45 @@ fn apply(kind: u8, m: i32, n: i32) -> i32
 }
 
 // An expression's value, and where the expression ends.
-pub fn eval(s: &[u8], at: usize, ws: &[i32], k: usize) -> Value
+pub fn eval(s: &[u8], at: usize, ws: &[i32], k: usize) -> Evaluated
     requires { ⌜ k + frameWords ≤ length (now ws) ⌝ }
-    ensures { λ r. ⌜ valueOf r ≡ Frames.eval (frameAt (now (ws .entry)) k) (expressionAt (now (s .entry)) at) ⌝ }
+    ensures { λ r. ⌜ Evaluates (frameAt (now (ws .entry)) k) (now (s .entry)) at r ⌝ }
 {
     let kind = bytes::byte(s, at);
     let first = bytes::after(at, 1);
     let m = atom(s, first, ws, k);
+    let second = atom_end(s, first);
     if !m.ok {
-        return m;
-    }
-    if bytes::operands(kind as usize) != 2 {
-        return Value {
-            ok: true,
-            value: apply(kind, m.value, 0),
+        return Evaluated {
+            ok: false,
+            value: 0,
+            end: second,
         };
     }
-    let n = atom(s, atom_end(s, first), ws, k);
-    if !n.ok {
-        return n;
+    if bytes::operands(kind as usize) != 2 {
+        return Evaluated {
+            ok: true,
+            value: apply(kind, m.value, 0),
+            end: second,
+        };
     }
-    Value {
+    let n = atom(s, second, ws, k);
+    let end = atom_end(s, second);
+    if !n.ok {
+        return Evaluated {
+            ok: false,
+            value: 0,
+            end,
+        };
+    }
+    Evaluated {
         ok: true,
         value: apply(kind, m.value, n.value),
+        end,
     }
 }
 
-pub fn expression_end(s: &[u8], at: usize) -> usize
+fn expression_end(s: &[u8], at: usize) -> usize
     ensures { λ r. ⌜ r ≡ expressionEnd (now (s .entry)) at ⌝ }
 {
     let second = atom_end(s, bytes::after(at, 1));
@@ -168,12 +192,22 @@ pub fn head_end(s: &[u8], at: usize) -> usize
     list_end(s, bytes::after(list_end(s, at), 2))
 }
 
-// How many temporaries an argument list has: 8 at most.
+// How many of n values are passed on: 8 at most.
+pub fn few(n: u8) -> u8
+    ensures { λ r. ⌜ r ≡ min n most ⌝ }
+{
+    if (n as usize) < Values::MOST {
+        n
+    } else {
+        Values::MOST as u8
+    }
+}
+
+// How many temporaries an argument list has.
 pub fn count(s: &[u8], at: usize) -> u8
     ensures { λ r. ⌜ r ≡ countAt (now (s .entry)) at ⌝ }
 {
-    let n = bytes::byte(s, at);
-    if n < 8 { n } else { 8 }
+    few(bytes::byte(s, at))
 }
 
 // The values of the temporaries of an argument list, put into a buffer, if all are bound.
@@ -203,7 +237,7 @@ pub fn bind(ws: &mut [i32], k: usize, x: u8, v: i32)
     requires { ⌜ k + frameWords ≤ length (now ws) ⌝ }
     ensures { λ _. ⌜ Binds (now (ws .entry)) k x v (now (ws .exit)) ⌝ }
 {
-    if x < 16 {
+    if (x as usize) < Pool::TEMPORARIES {
         frames::bind(ws, k, x, v);
     }
 }
@@ -220,6 +254,21 @@ pub fn bind_all(s: &[u8], at: usize, ws: &mut [i32], k: usize, values: &[i32])
         let j = i as usize;
         bind(ws, k, bytes::byte(s, p), values[j]);
         p = bytes::after(p, 1);
+        i += 1;
+    }
+}
+
+// The empty frame at k becomes the first frame of function g, with the first n values of a buffer.
+pub fn begin(ws: &mut [i32], k: usize, g: u8, n: u8, values: &[i32])
+    requires { ⌜ (k + frameWords ≤ length (now ws)) × (length (now values) ≡ most) ⌝ }
+    ensures { λ _. ⌜ Begins (now (ws .entry)) k g n (now (values .entry)) (now (ws .exit)) ⌝ }
+{
+    frames::name(ws, k, g);
+    let count = few(n);
+    let mut i: u8 = 0;
+    while i < count {
+        let j = i as usize;
+        frames::bind(ws, k, i, values[j]);
         i += 1;
     }
 }

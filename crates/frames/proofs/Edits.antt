@@ -7,14 +7,14 @@ use lib.Dec.{lit≤}
 use lib.IntN.{ℤ, pos}
 use lib.ListN.{length, take, drop, set, length-append, length-reverse, length-replicate, replicate-append-replicate}
 use lib.Seq.{take-all}
-use Rattle.model.specs.Lists.{Each, concat}
-use Rattle.model.specs.Pool.{Frame, Thread, Pool, mostFrames, frameWords, threadWords, frames, wordsOfFrame, wordsOfThread, wordsOf}
-use Rattle.model.specs.Frames.{deque}
+use Rattle.model.specs.Lists.{Each, pad, concat}
+use Rattle.model.specs.Sets.{below}
+use Rattle.model.specs.Pool.{Frame, Thread, Pool, mostFrames, frameWords, threadWords, frames, begin, wordsOfFrame, wordsOfThread, wordsOf}
 use Rattle.model.proofs.Facts.{each-right}
 use Rattle.model.proofs.Words.{FrameFits, ThreadFits, PoolFits, each-reverse, frame-length, thread-length}
 use Rattle.words.specs.Runs.{pasted, cleared}
 use Rattle.frames.specs.Held.{startOf, ThreadAt, FrameAt}
-use Rattle.frames.proofs.Parts.{zeros, paste-parts, paste-all, set-pasted, cleared-pasted}
+use Rattle.frames.proofs.Parts.{zeros, paste-parts, paste-all, cleared-pasted}
 use Rattle.frames.proofs.Places.{written-one, set-in, framesWords, frames-length, thread-parts, Around, around, within-fits, around-fits, within, pool-within, paste-in, read-in, Beside, beside, beside-fits, amid, thread-amid, paste-amid, read-amid}
 
 -- one frame of a thread of a pool
@@ -104,22 +104,14 @@ frame-read {a} {b} {t} {K₁} {K₂} {k} {d} {i} {j} h e at p =
     let s : Slot a b t K₁ K₂ k = slot h e in
     rw (n, h .held .words) (slot-read s)
 
--- one more promoted call
-promoted-fits : {k : Frame} (n : ℕ) → FrameFits k → FrameFits (deque k (k .calls) n)
-unfolding deque
-promoted-fits n f = record { calls = f .calls; values = f .values }
+-- the empty frame: its words are 0
+empty-fits : FrameFits (begin 0 [])
+unfolding begin pad
+empty-fits = record { calls = lit≤ tt; values = refl }
 
-promoted-word : (k : Frame) (n : ℕ) → pasted (wordsOfFrame k) 5 (pos n ∷ []) ≡ wordsOfFrame (deque k (k .calls) n)
-unfolding pasted wordsOfFrame deque
-promoted-word k n = refl
-
-pub call-promoted : {a b : Pool} {t t′ : Thread} {K₁ K₂ : List Frame} {k : Frame} {d : List ℤ} {i j : ℕ} (n : ℕ)
-    → ThreadAt d i a t b → FrameAt t j K₁ k K₂ → FrameAt t′ j K₁ (deque k (k .calls) n) K₂
-    → (at : ℕ) → at ≡ startOf i j + 5 → at < length d → ThreadAt (set d at (pos n)) i a t′ b
-call-promoted {a} {b} {t} {t′} {K₁} {K₂} {k} {d} {i} {j} n h e e′ at p l =
-    let s = slot h e in
-    rw (set-pasted d at (pos n) l)
-    (frame-edited h e e′ (promoted-fits n (s .fits)) (pos n ∷ []) at 5 p (lit≤ tt) (promoted-word k n))
+empty-words : wordsOfFrame (begin 0 []) ≡ zeros frameWords
+unfolding wordsOfFrame begin below pad
+empty-words = refl
 
 -- the room above a thread's frames K: free, or with one more frame
 module _ (K : List Frame) (f : Each FrameFits K) (few : length K < mostFrames) where
@@ -176,16 +168,26 @@ module _ (K : List Frame) (f : Each FrameFits K) (few : length K < mostFrames) w
       }
 
 module _ {a b : Pool} {d : List ℤ} {i : ℕ} where
-  -- a call: the callee stands above
-  pub pushed : {t : Thread} → ThreadAt d i a t b → length (frames t) < mostFrames → (l : Frame) → FrameFits l
-      → (at₀ at₁ : ℕ) → at₀ ≡ 1 + threadWords * i → at₁ ≡ startOf i (length (frames t))
-      → ThreadAt (pasted (set d at₀ (pos (suc (length (frames t))))) at₁ (wordsOfFrame l)) i a (record { newest = l; older = frames t }) b
-  pushed {t} h few l g at₀ at₁ e₀ e₁ =
-      let f : Each FrameFits (frames t) = within-fits a b t (h .held .fits) .each in
-      let t′ : Thread = record { newest = l; older = frames t } in
-      top-edited (frames t) f few h (record { few = few; each = (g, f) }) (length (frames t)) (suc (length (frames t)))
-      (zeros frameWords) (wordsOfFrame l) at₀ at₁ e₀ e₁ refl (frame-length g)
-      (free-above (frames t) f few t refl) (one-above (frames t) f few t′ l refl g)
+  -- a call: the empty frame stands above, whose words are the free ones
+  pub pushed : {t : Thread} → ThreadAt d i a t b → length (frames t) < mostFrames → (at : ℕ) → at ≡ 1 + threadWords * i
+      → ThreadAt (set d at (pos (suc (length (frames t))))) i a (record { newest = begin 0 []; older = frames t }) b
+  pushed {t} h few at e =
+      let K : List Frame = frames t in
+      let g : ThreadFits t = within-fits a b t (h .held .fits) in
+      let t′ : Thread = record { newest = begin 0 []; older = K } in
+      let g′ : ThreadFits t′ = record { few = few; each = (empty-fits, g .each) } in
+      let o : Around a b = around a b t (h .held .fits) in
+      record {
+        held = record {
+          words =
+              ap (λ (w : List ℤ). set w at (pos (suc (length K)))) (h .held .words ∙ pool-within a b t o g ∙ ap (within a b) (free-above K (g .each) few t refl))
+              ∙ set-in a b (pos (length K)) (pos (suc (length K))) _ at o (omega (arith, h .place))
+              ∙ ap (within a b) (sym (one-above K (g .each) few t′ (begin 0 []) refl empty-fits ∙ rw empty-words))
+              ∙ sym (pool-within a b t′ o g′);
+          fits = around-fits a b t′ o g′;
+        };
+        place = h .place;
+      }
 
   -- a return: the newest frame's words are free
   pub popped : {l m : Frame} {K : List Frame} → ThreadAt d i a (record { newest = l; older = m ∷ K }) b

@@ -1,7 +1,7 @@
 -- A frame in place: the frame that its words say, what a change of it leaves, and its place in the pool.
-use Prim.Native.Nat.{ℕ, _+_, _-_, _≤_, _<_}
+use Prim.Native.Nat.{ℕ, _+_, _≤_}
 use mathlib.Core.Path.{_≡_, refl, sym, ap, subst⁻¹, _∙_}
-use mathlib.Core.List.{List, [], _∷_, _++_, append-assoc}
+use mathlib.Core.List.{List, [], _++_, append-assoc}
 use native.Mathlib.Omega.{arith}
 use lib.IntN.{ℤ}
 use lib.ListN.{length, take, drop}
@@ -11,7 +11,6 @@ use Rattle.model.proofs.Words.{frame-length}
 use Rattle.words.specs.Runs.{pasted}
 use Rattle.frames.specs.Held.{startOf, ThreadAt, FrameAt}
 use Rattle.frames.specs.Frame.{Small}
-use Rattle.frames.specs.Edits.{framesIn}
 use Rattle.frames.specs.InPlace.{frameAt, newestAt, FrameHeld, Became}
 use Rattle.frames.proofs.Parts.{parts, middle, paste-again}
 use Rattle.frames.proofs.Words.{frame-said}
@@ -71,17 +70,6 @@ newest-start h = omega (arith, frames-counted h)
 
 pub newest-held : {ws : List ℤ} {i : ℕ} {a b : Pool} {t : Thread} → ThreadAt ws i a t b → Small (t .newest) → FrameHeld ws (newestAt ws i) (t .newest)
 newest-held {ws} {i} {a} {b} {t} h s = subst⁻¹ (λ (p : ℕ). FrameHeld ws p (t .newest)) (newest-start h) (frame-held h (newest-at t) s)
-
--- the frame below the newest
-pub below-at : (ws : List ℤ) (i : ℕ) → 1 < framesIn ws i → newestAt ws i - frameWords ≡ startOf i (framesIn ws i - 2)
-below-at ws i h = omega arith
-
-pub below-held : {ws : List ℤ} {i : ℕ} {a b : Pool} {l m : Frame} {K : List Frame}
-    → ThreadAt ws i a (record { newest = l; older = m ∷ K }) b → Small m → FrameHeld ws (startOf i (framesIn ws i - 2)) m
-below-held {ws} {i} {a} {b} {l} {m} {K} h s =
-    let n : framesIn ws i - 2 ≡ length K = omega (arith, frames-counted h) in
-    let e : FrameAt (record { newest = l; older = m ∷ K }) (length K) (l ∷ []) m K = record { is = refl; place = refl } in
-    subst⁻¹ (λ (j : ℕ). FrameHeld ws (startOf i j) m) n (frame-held h e s)
 
 -- the newest frame has become another
 pub newest-became : {ws ws′ : List ℤ} {i : ℕ} {a b : Pool} {t : Thread} {k : Frame}

@@ -1,6 +1,6 @@
 -- What the steps of each operation leave, for every pool that the words hold.
 use Prim.Native.Nat.{ℕ, suc, _+_, _*_, _-_, _%_, _≤_, _<_}
-use mathlib.Core.Path.{_≡_, refl, sym, ap, subst⁻¹, _∙_}
+use mathlib.Core.Path.{_≡_, refl, sym, ap, subst, subst⁻¹, _∙_}
 use mathlib.Core.List.{List, [], _∷_, _++_, append-nil}
 use native.Mathlib.Omega.{arith}
 use lib.Dec.{lit≤}
@@ -15,12 +15,11 @@ use Rattle.words.specs.Runs.{pasted, moved, cleared}
 use Rattle.frames.specs.declared.Frame as Code
 use Rattle.frames.specs.Held.{startOf, bitsAt, ThreadAt}
 use Rattle.frames.specs.Frame.{modelOf, Wrote}
-use Rattle.frames.specs.Edits.{threadsIn, framesIn, lone, WroteThread, Pushed, Popped, Promoted, Added, Removed}
+use Rattle.frames.specs.Edits.{threadsIn, framesIn, lone, WroteThread, Pushed, Popped, Added, Removed}
 use Rattle.frames.proofs.Parts.{zeros, paste-parts, paste-paste, paste-all, set-pasted, cleared-pasted}
 use Rattle.frames.proofs.Places.{Around, around, within-fits, within, pool-within, first-in, thread-parts, pool-parts}
-use Rattle.frames.proofs.Edits.{frame-read, call-promoted, pushed, popped}
+use Rattle.frames.proofs.Edits.{pushed, popped}
 use Rattle.frames.proofs.Threads.{added, removed}
-use Rattle.frames.proofs.Words.{promoted-at}
 
 -- the counts that words say are those of the pool that they hold
 thread-first : (t : Thread) → wordsOfThread t ≡ pos (length (frames t)) ∷ drop 1 (wordsOfThread t)
@@ -48,16 +47,12 @@ threads-counted {ws} {i} {a} {b} {t} h =
     omega (arith, length-append a (t ∷ b), h .held .fits .few)
 
 module _ (ws : List ℤ) (i : ℕ) where
-  pub was-pushed : (d₁ d₂ : List ℤ) (n at₀ at₁ : ℕ) (f : Code.Frame) → framesIn ws i < mostFrames → n ≡ framesIn ws i
-      → at₀ ≡ 1 + threadWords * i → d₁ ≡ set ws at₀ (pos (n + 1)) → at₁ ≡ startOf i n → Wrote d₁ at₁ f d₂ → Pushed ws i (modelOf f) d₂
-  was-pushed d₁ d₂ n at₀ at₁ f few e p₀ w₀ p₁ w₁ a t b h =
-      let c : framesIn ws i ≡ suc (length (t .older)) = frames-counted h in
-      let m : n + 1 ≡ suc (suc (length (t .older))) = omega arith in
-      let t′ : Thread = record { newest = modelOf f; older = t .newest ∷ t .older } in
-      let q : d₂ ≡ pasted (set ws at₀ (pos (suc (suc (length (t .older)))))) at₁ (wordsOfFrame (modelOf f)) =
-      w₁ .words ∙ ap (λ (x : List ℤ). pasted x at₁ (wordsOfFrame (modelOf f))) (w₀ ∙ ap (λ (x : ℕ). set ws at₀ (pos x)) m)
-      in
-      subst⁻¹ (λ (x : List ℤ). ThreadAt x i a t′ b) q (pushed h (omega arith) (modelOf f) (w₁ .fits) at₀ at₁ p₀ (omega arith))
+  pub was-pushed : (d : List ℤ) (n at : ℕ) → framesIn ws i < mostFrames → n ≡ framesIn ws i → at ≡ 1 + threadWords * i → d ≡ set ws at (pos (n + 1))
+      → Pushed ws i (begin 0 []) d
+  was-pushed d n at few e p w a t b h =
+      let m : n + 1 ≡ suc (length (frames t)) = omega (arith, frames-counted h) in
+      subst⁻¹ (λ (x : List ℤ). ThreadAt x i a (record { newest = begin 0 []; older = frames t }) b) (w ∙ ap (λ (x : ℕ). set ws at (pos x)) m)
+      (pushed h (omega (arith, frames-counted h)) at p)
 
   pub was-popped : (d₁ d₂ : List ℤ) (n at₀ at₁ : ℕ) → n ≡ framesIn ws i
       → at₀ ≡ 1 + threadWords * i → d₁ ≡ set ws at₀ (pos (n - 1)) → at₁ ≡ startOf i (n - 1) → d₂ ≡ cleared d₁ at₁ frameWords → Popped ws i d₂
@@ -69,24 +64,17 @@ module _ (ws : List ℤ) (i : ℕ) where
       in
       subst⁻¹ (λ (x : List ℤ). ThreadAt x i a (record { newest = m; older = K }) b) q (popped h at₀ at₁ p₀ (omega arith))
 
-  pub was-promoted : (j : ℕ) (d : List ℤ) (n at : ℕ) → at ≡ startOf i j + 5 → at < length ws → n ≡ bitsAt ws at % 256 → d ≡ set ws at (pos (n + 1)) → Promoted ws i j d
-  was-promoted j d n at p l e w a t b K₁ k K₂ t′ h g s g′ =
-      let v : bitsAt ws (startOf i j + 5) ≡ k .promoted = promoted-at ws (startOf i j) k (frame-read h g (startOf i j) refl) in
-      let u : bitsAt ws at ≡ k .promoted = ap (bitsAt ws) p ∙ v in
-      let m : n + 1 ≡ k .promoted + 1 = omega arith in
-      subst⁻¹ (λ (x : List ℤ). ThreadAt x i a t′ b) (w ∙ ap (λ (x : ℕ). set ws at (pos x)) m)
-      (call-promoted (k .promoted + 1) h g g′ at p l)
-
   pub was-added : (d₁ d₂ d₃ : List ℤ) (n at end : ℕ) (f : Code.Frame) → threadsIn ws < mostThreads → n ≡ threadsIn ws
       → at ≡ 1 + threadWords * (i + 1) → end ≡ 1 + threadWords * n → d₁ ≡ set ws 0 (pos (n + 1)) → d₂ ≡ moved d₁ at (at + threadWords) (end - at) → WroteThread d₂ at f d₃
-      → Added ws i (modelOf f) d₃
-  was-added d₁ d₂ d₃ n at end f few e p₀ p₁ w₀ w₁ w₂ a t b h =
+      → modelOf f ≡ begin 0 [] → Added ws i (begin 0 []) d₃
+  was-added d₁ d₂ d₃ n at end f few e p₀ p₁ w₀ w₁ w₂ g a t b h =
       let c : threadsIn ws ≡ suc (length a + length b) = threads-counted h in
       let q : d₃ ≡ pasted (moved (set ws 0 (pos (n + 1))) at (at + threadWords) (end - at)) at (wordsOfThread (lone (modelOf f))) =
       w₂ .words ∙ ap (λ (x : List ℤ). pasted x at (wordsOfThread (lone (modelOf f)))) (w₁ ∙ ap (λ (x : List ℤ). moved x at (at + threadWords) (end - at)) w₀)
       in
-      subst⁻¹ (λ (x : List ℤ). ThreadAt x i a t (lone (modelOf f) ∷ b)) q
-      (added h (omega arith) (lone (modelOf f)) (w₂ .fits) (n + 1) at (at + threadWords) (end - at) (omega arith) (omega arith) refl (omega (arith, h .place)))
+      subst (λ (k : Frame). ThreadAt d₃ i a t (lone k ∷ b)) g
+      (subst⁻¹ (λ (x : List ℤ). ThreadAt x i a t (lone (modelOf f) ∷ b)) q
+      (added h (omega arith) (lone (modelOf f)) (w₂ .fits) (n + 1) at (at + threadWords) (end - at) (omega arith) (omega arith) refl (omega (arith, h .place))))
 
   pub was-removed : (d₁ d₂ d₃ : List ℤ) (n at end : ℕ) → n ≡ threadsIn ws
       → at ≡ 1 + threadWords * (i + 1) → end ≡ 1 + threadWords * (n - 1) → d₁ ≡ set ws 0 (pos (n - 1)) → d₂ ≡ moved d₁ (at + threadWords) at (end - at) → d₃ ≡ cleared d₂ end threadWords

@@ -12,8 +12,8 @@ use mir.Syntax.{w32}
 use mir.Val.{SFits, toZ, ofZ}
 use mir.Facts.{toZ-ofZ}
 use Rattle.model.specs.Lists.{Each, pad}
-use Rattle.model.specs.Sets.{with}
-use Rattle.model.specs.Pool.{Frame, mostCalls, temporaries, frameWords, wordsOfFrame}
+use Rattle.model.specs.Sets.{below, with}
+use Rattle.model.specs.Pool.{Frame, mostCalls, temporaries, frameWords, begin, wordsOfFrame}
 use Rattle.model.specs.Frames.{goTo, bind, deque}
 use Rattle.model.proofs.Facts.{each-append}
 use Rattle.model.proofs.Members.{with-lt}
@@ -22,13 +22,17 @@ use Rattle.words.specs.Runs.{pasted}
 use Rattle.words.proofs.Sets.{bind-with}
 use Rattle.frames.specs.Held.{bitsAt}
 use Rattle.frames.specs.Frame.{headOf, Small}
-use Rattle.frames.specs.InPlace.{FrameHeld, Became, Jumped, Advanced, Bound, Opened, Closed}
+use Rattle.frames.specs.InPlace.{named, FrameHeld, Became, Named, Jumped, Advanced, Bound, Opened, Closed, Promoted}
 use Rattle.frames.proofs.Parts.{set-behind}
 use Rattle.frames.proofs.Words.{word, word-at, head-length}
 use Rattle.frames.proofs.InPlace.{held-pasted}
 
 -- the words of the changed frame
 module _ (k : Frame) where
+  renamed : (g : ℕ) → set (wordsOfFrame k) 0 (pos g) ≡ wordsOfFrame (named k g)
+  unfolding wordsOfFrame named
+  renamed g = refl
+
   went : (b n : ℕ) → set (set (wordsOfFrame k) 1 (pos b)) 2 (pos n) ≡ wordsOfFrame (goTo k b n)
   unfolding wordsOfFrame goTo
   went b n = refl
@@ -88,12 +92,43 @@ module _ (k : Frame) where
       set-behind (pos (k .function) ∷ pos (k .block) ∷ pos (k .done) ∷ pos (k .bound) ∷ pos n ∷ pos m ∷ []) (slots (k .calls) (k .values)) 6 j x refl
       ∙ (λ i. pos (k .function) ∷ pos (k .block) ∷ pos (k .done) ∷ pos (k .bound) ∷ pos (sym f i) ∷ pos m ∷ e i)
 
+  one-promoted : (n : ℕ) → set (wordsOfFrame k) 5 (pos n) ≡ wordsOfFrame (deque k (k .calls) n)
+  unfolding wordsOfFrame deque
+  one-promoted n = refl
+
   same-promoted : (n : ℕ) → set (set (wordsOfFrame k) 4 (pos n)) 5 (pos (k .promoted)) ≡ set (wordsOfFrame k) 4 (pos n)
   unfolding wordsOfFrame
   same-promoted n = refl
 
+-- the empty frame is small
+pub small-empty : Small (begin 0 [])
+unfolding begin below pad
+small-empty =
+    record {
+      function = lit≤ tt;
+      block = lit≤ tt;
+      done = lit≤ tt;
+      bound = lit≤ tt;
+      promoted = lit≤ tt;
+      calls = tt;
+      fits = record { calls = lit≤ tt; values = refl };
+    }
+
 -- small frames stay small
 module _ {k : Frame} (s : Small k) where
+  small-named : (g : ℕ) → g < 256 → Small (named k g)
+  unfolding named
+  small-named g p =
+      record {
+        function = p;
+        block = s .block;
+        done = s .done;
+        bound = s .bound;
+        promoted = s .promoted;
+        calls = s .calls;
+        fits = record { calls = s .fits .calls; values = s .fits .values };
+      }
+
   small-went : (b n : ℕ) → b < 256 → n < 256 → Small (goTo k b n)
   unfolding goTo
   small-went b n p q =
@@ -177,6 +212,9 @@ module _ (ws : List ℤ) (at : ℕ) (l : at + frameWords ≤ length ws) where
   over-became s o e = record { small = s; words = o .words ∙ ap (pasted ws at) e }
 
   -- the edits
+  pub was-named : (g : ℕ) → g < 256 → Named ws at g (set ws at (toZ w32 g))
+  was-named g p k h = over-became (small-named (h .small) g p) (over-number (over-held h) at 0 g (lit≤ tt) (omega arith) (omega arith)) (renamed k g)
+
   pub was-jumped : (b n : ℕ) → b < 256 → n < 256 → Jumped ws at b n (set (set ws (at + 1) (toZ w32 b)) (at + 2) (toZ w32 n))
   was-jumped b n p q k h =
       over-became (small-went (h .small) b n p q)
@@ -224,3 +262,11 @@ module _ (ws : List ℤ) (at : ℕ) (l : at + frameWords ≤ length ws) where
       over-became (small-deque (h .small) ρ m (each-take (λ π. π < 256) n (k .calls) (h .small .calls)) (omega arith) q)
       (over-set counts (at + 6 + n) (6 + n) (pos 0) (pos 0) (omega arith) (omega arith) refl)
       (requeued k ρ n m n (pos 0) (closed-calls (k .calls) n (k .values) e p) r)
+
+  pub was-promoted : (n : ℕ) → n ≡ bitsAt ws (at + 5) % 256 → Promoted ws at (set ws (at + 5) (toZ w32 (n + 1)))
+  unfolding wordsOfFrame
+  was-promoted n e k h q =
+      let d : n ≡ k .promoted = omega (arith, word-at ws at k (h .words) 5 (lit≤ tt)) in
+      over-became (small-deque (h .small) (k .calls) (k .promoted + 1) (h .small .calls) (h .small .fits .calls) (omega arith))
+      (over-number (over-held h) (at + 5) 5 (n + 1) (lit≤ tt) refl (omega arith))
+      (ap (λ (m : ℕ). set (wordsOfFrame k) 5 (pos (m + 1))) d ∙ one-promoted k (k .promoted + 1))

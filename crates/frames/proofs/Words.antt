@@ -141,10 +141,6 @@ module _ (ws : List ℤ) (at : ℕ) (k : Frame) (e : take 26 (drop at ws) ≡ wo
       ap (ofZ w32)
       (sym (getD-drop at ws j (pos 0)) ∙ sym (getD-take 26 (drop at ws) j (pos 0) h) ∙ ap (λ (l : List ℤ). getD l j (pos 0)) e)
 
-  pub promoted-at : bitsAt ws (at + 5) ≡ k .promoted
-  unfolding wordsOfFrame
-  promoted-at = word-at 5 (lit≤ tt)
-
   values-at : FrameFits k → take 16 (drop (at + 10) ws) ≡ k .values
   values-at f =
       let R : List ℤ = drop 26 (drop at ws) in

@@ -1,15 +1,14 @@
 -- What the operations on a pool's words leave, for every pool that the words hold.
-use Prim.Native.Nat.{ℕ, _+_, _*_, _-_, _%_, _<_}
+use Prim.Native.Nat.{ℕ, _+_, _*_, _-_, _%_}
 use mathlib.Core.Path.{_≡_}
 use mathlib.Core.List.{List, [], _∷_}
 use lib.IntN.{ℤ}
 use Rattle.model.specs.Pool.{Frame, Thread, Pool, mostFrames, mostThreads, threadWords, wordsOfThread}
-use Rattle.model.specs.Frames.{deque}
 use Rattle.model.proofs.Words.{ThreadFits}
 use Rattle.words.specs.Runs.{pasted}
 use Rattle.frames.specs.declared.Frame as Code
 use Rattle.frames.specs.Frame.{modelOf}
-use Rattle.frames.specs.Held.{bitsAt, ThreadAt, FrameAt}
+use Rattle.frames.specs.Held.{bitsAt, ThreadAt}
 
 -- the number of threads, and of a thread's frames, that words say: always 1 to 8
 abbrev pub threadsIn : List ℤ → ℕ
@@ -35,12 +34,6 @@ Pushed ws i k ws′ =
 abbrev pub Popped : List ℤ → ℕ → List ℤ → Type 0
 Popped ws i ws′ =
     (a : Pool) (l m : Frame) (K : List Frame) (b : Pool) → ThreadAt ws i a (record { newest = l; older = m ∷ K }) b → ThreadAt ws′ i a (record { newest = m; older = K }) b
-
--- frame j of thread i has one more promoted call
-abbrev pub Promoted : List ℤ → ℕ → ℕ → List ℤ → Type 0
-Promoted ws i j ws′ =
-    (a : Pool) (t : Thread) (b : Pool) (K₁ : List Frame) (k : Frame) (K₂ : List Frame) (t′ : Thread) → ThreadAt ws i a t b → FrameAt t j K₁ k K₂
-    → k .promoted < 256 → FrameAt t′ j K₁ (deque k (k .calls) (k .promoted + 1)) K₂ → ThreadAt ws′ i a t′ b
 
 -- a thread of one frame stands directly behind thread i
 abbrev pub Added : List ℤ → ℕ → Frame → List ℤ → Type 0

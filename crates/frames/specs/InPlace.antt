@@ -38,7 +38,24 @@ pub record Became (ws : List ℤ) (at : ℕ) (k : Frame) (ws′ : List ℤ) : Ty
   pub small : Small k
   pub words : ws′ ≡ pasted ws at (wordsOfFrame k)
 
--- the frame is at statement n of block b; at the next statement; it has a temporary bound; one more call open; the last one closed
+-- the frame, as one of function g
+unfoldable pub named : Frame → ℕ → Frame
+named k g =
+    record {
+      function = g;
+      block = k .block;
+      done = k .done;
+      bound = k .bound;
+      calls = k .calls;
+      promoted = k .promoted;
+      values = k .values;
+    }
+
+-- the frame is one of function g; at statement n of block b; at the next statement; it has a temporary bound; one more call open; the last one
+-- closed; one more promoted
+abbrev pub Named : List ℤ → ℕ → ℕ → List ℤ → Type 0
+Named ws at g ws′ = (k : Frame) → FrameHeld ws at k → Became ws at (named k g) ws′
+
 abbrev pub Jumped : List ℤ → ℕ → ℕ → ℕ → List ℤ → Type 0
 Jumped ws at b n ws′ = (k : Frame) → FrameHeld ws at k → Became ws at (goTo k b n) ws′
 
@@ -55,3 +72,7 @@ Opened ws at n π ws′ =
 abbrev pub Closed : List ℤ → ℕ → ℕ → ℕ → List ℤ → Type 0
 Closed ws at n promoted ws′ =
     (k : Frame) → FrameHeld ws at k → length (k .calls) ≡ suc n → Became ws at (deque k (take n (k .calls)) promoted) ws′
+
+abbrev pub Promoted : List ℤ → ℕ → List ℤ → Type 0
+Promoted ws at ws′ =
+    (k : Frame) → FrameHeld ws at k → k .promoted < 255 → Became ws at (deque k (k .calls) (k .promoted + 1)) ws′

@@ -1,4 +1,4 @@
-// The pool's words, worked in place: new frames by value, frames where they stand, and the operations on threads and frames.
+// The pool's words, worked in place: the empty frame by value, frames where they stand, and the operations on threads and frames.
 ghost use mathlib.Core.List.{[]};
 ghost use mathlib.Core.Option.{some};
 ghost use mathlib.Core.Path.{_≡_};
@@ -7,8 +7,8 @@ ghost use lib.IntN.{pos};
 ghost use lib.ListN.{length, getD, getElem?, set};
 ghost use Rattle.model.specs.Pool.{begin, mostCalls, mostFrames, mostThreads, temporaries, frameWords, threadWords, poolWords, wordsOf, started};
 ghost use Rattle.frames.specs.Held.{startOf, bitsAt};
-ghost use Rattle.frames.specs.Edits.{threadsIn, framesIn, WroteThread, Pushed, Popped, Promoted, Added, Removed};
-ghost use Rattle.frames.specs.InPlace.{frameAt, newestAt, Jumped, Advanced, Bound, Opened, Closed};
+ghost use Rattle.frames.specs.Edits.{threadsIn, framesIn, WroteThread, Pushed, Popped, Added, Removed};
+ghost use Rattle.frames.specs.InPlace.{frameAt, newestAt, Named, Jumped, Advanced, Bound, Opened, Closed, Promoted};
 ghost use Rattle.frames.specs.Frame.{modelOf, headOf, callWord, countWord, Wrote};
 
 // The pool's own record: its limits, and the empty frame.
@@ -22,6 +22,14 @@ impl Pool {
     pub const CALLS: usize = 4;
 
     pub const TEMPORARIES: usize = 16;
+
+    pub const BLOCK_AT: usize = 1;
+
+    pub const DONE_AT: usize = 2;
+
+    pub const BOUND_AT: usize = 3;
+
+    pub const OPENED_AT: usize = 4;
 
     pub const PROMOTED_AT: usize = 5;
 
@@ -51,7 +59,7 @@ impl Pool {
     }
 }
 
-// A new frame, by value. The first `opened` of `calls` are the open spawn calls, oldest first.
+// A frame by value, as the empty one is. The first `opened` of `calls` are the open spawn calls, oldest first.
 pub struct Frame {
     pub function: u8,
     pub block: u8,
@@ -172,21 +180,21 @@ pub fn block(ws: &[i32], at: usize) -> u8
     requires { ⌜ at + frameWords ≤ length (now ws) ⌝ }
     ensures { λ r. ⌜ r ≡ frameAt (now (ws .entry)) at .block ⌝ }
 {
-    byte_at(ws, at + 1)
+    byte_at(ws, at + Pool::BLOCK_AT)
 }
 
 pub fn done(ws: &[i32], at: usize) -> u8
     requires { ⌜ at + frameWords ≤ length (now ws) ⌝ }
     ensures { λ r. ⌜ r ≡ frameAt (now (ws .entry)) at .done ⌝ }
 {
-    byte_at(ws, at + 2)
+    byte_at(ws, at + Pool::DONE_AT)
 }
 
 pub fn bound(ws: &[i32], at: usize) -> u16
     requires { ⌜ at + frameWords ≤ length (now ws) ⌝ }
     ensures { λ r. ⌜ r ≡ frameAt (now (ws .entry)) at .bound ⌝ }
 {
-    half_at(ws, at + 3)
+    half_at(ws, at + Pool::BOUND_AT)
 }
 
 // How many calls are open: 4 at most.
@@ -194,8 +202,12 @@ pub fn opened(ws: &[i32], at: usize) -> u8
     requires { ⌜ at + frameWords ≤ length (now ws) ⌝ }
     ensures { λ r. ⌜ r ≡ length (frameAt (now (ws .entry)) at .calls) ⌝ }
 {
-    let n = byte_at(ws, at + 4);
-    if n < 4 { n } else { 4 }
+    let n = byte_at(ws, at + Pool::OPENED_AT);
+    if (n as usize) < Pool::CALLS {
+        n
+    } else {
+        Pool::CALLS as u8
+    }
 }
 
 pub fn promoted(ws: &[i32], at: usize) -> u8
@@ -270,13 +282,21 @@ pub fn write_frame(ws: &mut [i32], at: usize, f: Frame)
     words::copy(ws, at + Pool::VALUES_AT, &values);
 }
 
-// The frame at a place, changed in place: it is at statement n of block b.
+// The frame at a place, changed in place: it is one of function g.
+pub fn name(ws: &mut [i32], at: usize, g: u8)
+    requires { ⌜ at + frameWords ≤ length (now ws) ⌝ }
+    ensures { λ _. ⌜ Named (now (ws .entry)) at g (now (ws .exit)) ⌝ }
+{
+    ws[at] = g as i32;
+}
+
+// It is at statement n of block b.
 pub fn jump(ws: &mut [i32], at: usize, b: u8, n: u8)
     requires { ⌜ at + frameWords ≤ length (now ws) ⌝ }
     ensures { λ _. ⌜ Jumped (now (ws .entry)) at b n (now (ws .exit)) ⌝ }
 {
-    ws[at + 1] = b as i32;
-    ws[at + 2] = n as i32;
+    ws[at + Pool::BLOCK_AT] = b as i32;
+    ws[at + Pool::DONE_AT] = n as i32;
 }
 
 // It is at its next statement.
@@ -284,8 +304,8 @@ pub fn advance(ws: &mut [i32], at: usize)
     requires { ⌜ at + frameWords ≤ length (now ws) ⌝ }
     ensures { λ _. ⌜ Advanced (now (ws .entry)) at (now (ws .exit)) ⌝ }
 {
-    let n = byte_at(ws, at + 2) as usize;
-    ws[at + 2] = (n + 1) as i32;
+    let n = byte_at(ws, at + Pool::DONE_AT) as usize;
+    ws[at + Pool::DONE_AT] = (n + 1) as i32;
 }
 
 // A temporary is bound.
@@ -293,8 +313,8 @@ pub fn bind(ws: &mut [i32], at: usize, x: u8, v: i32)
     requires { ⌜ (at + frameWords ≤ length (now ws)) × (x < temporaries) ⌝ }
     ensures { λ _. ⌜ Bound (now (ws .entry)) at x v (now (ws .exit)) ⌝ }
 {
-    let bound = half_at(ws, at + 3);
-    ws[at + 3] = (bound | (1 << x)) as i32;
+    let bound = half_at(ws, at + Pool::BOUND_AT);
+    ws[at + Pool::BOUND_AT] = (bound | (1 << x)) as i32;
     ws[at + Pool::VALUES_AT + (x as usize)] = v;
 }
 
@@ -303,7 +323,7 @@ pub fn open_call(ws: &mut [i32], at: usize, n: u8, call: u8)
     requires { ⌜ (at + frameWords ≤ length (now ws)) × (n < mostCalls) ⌝ }
     ensures { λ _. ⌜ Opened (now (ws .entry)) at n call (now (ws .exit)) ⌝ }
 {
-    ws[at + 4] = (n + 1) as i32;
+    ws[at + Pool::OPENED_AT] = (n + 1) as i32;
     ws[at + Pool::CALLS_AT + (n as usize)] = call as i32;
 }
 
@@ -312,9 +332,18 @@ pub fn close_call(ws: &mut [i32], at: usize, n: u8, promoted: u8)
     requires { ⌜ (at + frameWords ≤ length (now ws)) × (n < mostCalls) ⌝ }
     ensures { λ _. ⌜ Closed (now (ws .entry)) at n promoted (now (ws .exit)) ⌝ }
 {
-    ws[at + 4] = n as i32;
+    ws[at + Pool::OPENED_AT] = n as i32;
     ws[at + Pool::PROMOTED_AT] = promoted as i32;
     ws[at + Pool::CALLS_AT + (n as usize)] = 0;
+}
+
+// One more call is promoted.
+pub fn promote_call(ws: &mut [i32], at: usize)
+    requires { ⌜ at + frameWords ≤ length (now ws) ⌝ }
+    ensures { λ _. ⌜ Promoted (now (ws .entry)) at (now (ws .exit)) ⌝ }
+{
+    let n = byte_at(ws, at + Pool::PROMOTED_AT) as usize;
+    ws[at + Pool::PROMOTED_AT] = (n + 1) as i32;
 }
 
 // Where a thread begins: the word that counts its frames.
@@ -371,14 +400,13 @@ pub fn write_thread(ws: &mut [i32], at: usize, f: Frame)
     );
 }
 
-// A frame stands above the newest, which begins at k.
-pub fn push_frame(ws: &mut [i32], thread: usize, k: usize, f: Frame)
-    requires { ⌜ (length (now ws) ≡ poolWords) × (thread < mostThreads) × (framesIn (now ws) thread < mostFrames) × (k ≡ newestAt (now ws) thread) ⌝ }
-    ensures { λ _. ⌜ Pushed (now (ws .entry)) thread (modelOf f) (now (ws .exit)) ⌝ }
+// The empty frame stands above the newest: its words are 0, as those above the newest are.
+pub fn push_frame(ws: &mut [i32], thread: usize)
+    requires { ⌜ (length (now ws) ≡ poolWords) × (thread < mostThreads) × (framesIn (now ws) thread < mostFrames) ⌝ }
+    ensures { λ _. ⌜ Pushed (now (ws .entry)) thread (begin 0 []) (now (ws .exit)) ⌝ }
 {
     let n = frame_count(ws, thread);
     set_count(ws, thread_start(thread), n + 1);
-    write_frame(ws, k + Pool::FRAME_WORDS, f);
 }
 
 // The newest frame, which begins at k, goes.
@@ -391,27 +419,17 @@ pub fn pop_frame(ws: &mut [i32], thread: usize, k: usize)
     words::clear(ws, k, Pool::FRAME_WORDS);
 }
 
-// One more call of a frame is promoted.
-pub fn promote_call(ws: &mut [i32], thread: usize, frame: usize)
-    requires { ⌜ (length (now ws) ≡ poolWords) × (thread < mostThreads) × (frame < mostFrames) ⌝ }
-    ensures { λ _. ⌜ Promoted (now (ws .entry)) thread frame (now (ws .exit)) ⌝ }
-{
-    let at = frame_start(thread, frame) + Pool::PROMOTED_AT;
-    let n = byte_at(ws, at) as usize;
-    set_count(ws, at, n + 1);
-}
-
-// A thread with one frame comes directly behind a thread: those behind it move up.
-pub fn add_thread(ws: &mut [i32], thread: usize, f: Frame)
+// A thread with one frame, the empty one, comes directly behind a thread: those behind it move up.
+pub fn add_thread(ws: &mut [i32], thread: usize)
     requires { ⌜ (length (now ws) ≡ poolWords) × (thread < threadsIn (now ws)) × (threadsIn (now ws) < mostThreads) ⌝ }
-    ensures { λ _. ⌜ Added (now (ws .entry)) thread (modelOf f) (now (ws .exit)) ⌝ }
+    ensures { λ _. ⌜ Added (now (ws .entry)) thread (begin 0 []) (now (ws .exit)) ⌝ }
 {
     let n = thread_count(ws);
     let at = thread_start(thread + 1);
     let end = thread_start(n);
     set_count(ws, 0, n + 1);
     words::move_run(ws, at, at + Pool::THREAD_WORDS, end - at);
-    write_thread(ws, at, f);
+    write_thread(ws, at, Pool::empty_frame());
 }
 
 // The thread directly behind a thread goes: those behind it move down, and the last one's words are cleared.

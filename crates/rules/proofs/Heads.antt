@@ -1,23 +1,16 @@
 -- Entering a block, a callee's first frame, and a child's: from what the code looked up.
-use Prim.Native.Nat.{ℕ, zero, suc, _+_, _*_, _-_, _%_, _^_, _≤_, _<_}
+use Prim.Native.Nat.{ℕ, zero, suc, _<_}
 use mathlib.Core.Path.{_≡_, refl, sym, ap, subst, _∙_}
 use mathlib.Core.Bool.{Bool, true, false, not}
 use mathlib.Core.Option.{Option, none, some}
-use mathlib.Core.List.{List, [], _∷_, _++_, append-assoc}
+use mathlib.Core.List.{List}
 use native.Mathlib.Omega.{arith}
-use native.Mathlib.Numerals.{add-one}
 use borrow.Author.Tests.{eq-eqb, ne-eqb, not-true, not-false}
-use mir.Val.{SFits, toZ, ofZ}
-use mir.Facts.{toZ-ofZ}
-use mir.Syntax.{w32}
 use lib.Dec.{eqb}
-use lib.Pow.{pow-pos}
 use lib.IntN.{ℤ, pos}
-use lib.ListN.{length, getD, getElem?, take, set, replicate}
-use lib.Seq.{set-at, take-suc, take-all, length-take-le}
-use Rattle.model.specs.Numbers as No
-use Rattle.model.specs.Lists.{Each, pad}
-use Rattle.model.specs.Sets.{below}
+use lib.ListN.{length, getElem?, take}
+use lib.Seq.{length-take-le}
+use Rattle.model.specs.Lists.{Each}
 use Rattle.model.specs.Syntax.{SpawnCall, Function, Program}
 use Rattle.model.specs.Pool.{Frame, temporaries, begin, functionOf, blockOf}
 use Rattle.model.specs.Frames as Frames
@@ -27,21 +20,15 @@ use Rattle.model.proofs.Guarantees as Guarantees
 use Rattle.places.specs.declared.Place.{Place}
 use Rattle.places.specs.declared.Place.the-variants.{At, Nowhere}
 use Rattle.places.specs.Places.{Places, spawnIn, FindsFunction, FindsBlock, FindsSpawn}
-use Rattle.frames.specs.declared.Frame as Code
-use Rattle.frames.specs.Frame.{modelOf}
 use Rattle.bytes.specs.Bytes.{byteAt, past}
 use Rattle.eval.specs.Code.{most, run, countAt, argumentsAt}
 use Rattle.eval.specs.Given.{optional, lookedIn}
-use Rattle.eval.proofs.Leaves.{bit, count-le}
+use Rattle.eval.proofs.Leaves.{count-le}
 use Rattle.eval.proofs.Decoding.{block-codes, spawn-is, function-parameters}
 use Rattle.rules.specs.declared.Acted.{Acted}
 use Rattle.rules.specs.declared.Does.{Does}
-use Rattle.rules.specs.declared.Does.the-variants.{Refuse, Push}
-use Rattle.rules.specs.Acts.{acting, Entering, Enters, Few, Takes, Spawned, Spawns}
-
--- the act of a frame to which no rule applies
-abbrev pub jam : Acted
-jam = acting (Refuse No.stuck) 0 0
+use Rattle.rules.specs.declared.Does.the-variants.{Push}
+use Rattle.rules.specs.Acts.{acting, jam, Entering, Enters, Takes, childBy, Spawns}
 
 -- how long an argument list is, and the values looked up for it
 run-length : (s : List ℕ) (at n : ℕ) → length (run s at n) ≡ n
@@ -65,7 +52,7 @@ module _ (s : List ℕ) (at : ℕ) (ok : Bool) (out : List ℤ) (o : Option (Lis
   looked-some h = sym e ∙ ap (λ (b : Bool). lookedIn s at b out) (not-false ok h)
 
 -- entering a block by its number: the counts agree, or differ, or it is not there
-module _ (s places : List ℕ) (f b n : ℕ) (does : Does) where
+module _ (s places : List ℕ) (f b n : ℕ) (does : Does) (x : ℕ) where
   module _ (at : ℕ) {c : ℕ} (d : FindsBlock places f b (At at)) (e : c ≡ countAt s at) where
     block-takes : (P : Program) → Places s P places → (m : Frame) (v̄ : List ℤ) → m .function ≡ f
         → enter P m b v̄ ≡ when (eqb c (length v̄)) (some (bindAll (goTo m b 0) (argumentsAt s at) v̄))
@@ -74,12 +61,14 @@ module _ (s places : List ℕ) (f b n : ℕ) (does : Does) where
         let (B, q, t) = d s P p in
         rw (h, q, block-codes s at B (t .behind) (p .short) (t .is) .0, arguments-length s at, ← e)
 
-    pub enters : c ≡ n → Enters s places f b n does (record { does = does; block = b; count = n; value = pos 0; parameters = at })
+    pub enters : c ≡ n → Enters s places f b n does x (record { does = does; number = x; block = b; count = n; value = pos 0; parameters = at })
     unfolding when
     enters g P p =
         let (B, q, t) = d s P p in
-        Entering.arrives refl
+        Entering.arrives
         (record {
+          does = refl;
+          number = refl;
           block = refl;
           count = refl;
           parameters =
@@ -90,17 +79,13 @@ module _ (s places : List ℕ) (f b n : ℕ) (does : Does) where
           is = λ m v̄ h l. block-takes P p m v̄ h ∙ rw (l, eq-eqb c n g);
         })
 
-    pub not-enters : (r : Acted) → (c ≡ n → ⊥) → r ≡ jam → Enters s places f b n does r
+    pub not-enters : (r : Acted) → (c ≡ n → ⊥) → r ≡ jam → Enters s places f b n does x r
     unfolding when
-    not-enters r g q =
-        let e : r .does ≡ Refuse No.stuck = ap (λ (a : Acted). a .does) q in
-        λ P p. Entering.jams e (λ m v̄ h l. block-takes P p m v̄ h ∙ rw (l, ne-eqb c n g))
+    not-enters r g q P p = Entering.jams q (λ m v̄ h l. block-takes P p m v̄ h ∙ rw (l, ne-eqb c n g))
 
-  pub not-there : (r : Acted) → FindsBlock places f b Nowhere → r ≡ jam → Enters s places f b n does r
+  pub not-there : (r : Acted) → FindsBlock places f b Nowhere → r ≡ jam → Enters s places f b n does x r
   unfolding enter blockOf functionOf
-  not-there r d q =
-      let e : r .does ≡ Refuse No.stuck = ap (λ (a : Acted). a .does) q in
-      λ P p. Entering.jams e (λ m v̄ h l. rw (h, d s P p))
+  not-there r d q P p = Entering.jams q (λ m v̄ h l. rw (h, d s P p))
 
 -- a callee: it is there, or not
 module _ (s places : List ℕ) (g n : ℕ) where
@@ -151,8 +136,8 @@ module _ (s places : List ℕ) (m : Frame) (π : ℕ) (out : List ℤ) (r : Acte
   unfolding child functionOf
   child-is P = rw h (spawn-then (getElem? P (m .function)) π _)
 
-  no-child : (P : Program) → r ≡ jam → child P m π ≡ none → Spawned P m π out r
-  no-child P e q = rw e (record { child = sym q; few = omega arith })
+  no-child : (P : Program) → r ≡ jam → child P m π ≡ none → childBy (r .does) r out ≡ child P m π
+  no-child P e q = rw e (sym q)
 
   pub no-spawn : FindsSpawn places f π Nowhere → r ≡ jam → Spawns s places m π out r
   no-spawn d e P p = no-child P e (child-is P ∙ rw (d s P p))
@@ -175,51 +160,5 @@ module _ (s places : List ℕ) (m : Frame) (π : ℕ) (out : List ℤ) (r : Acte
       pub not-taken : not there ≡ true → r ≡ jam → Spawns s places m π out r
       not-taken u e P p = no-child P e (child-of P p ∙ rw (not-true there u))
 
-      pub spawns : not there ≡ false → r ≡ acting (Push g) 0 n → Spawns s places m π out r
-      spawns u e P p = rw e (record { child = sym (child-of P p ∙ rw (not-false there u)); few = omega (arith, count-le s l) })
-
--- how many values a buffer has
-pub few-all : (n : ℕ) → n < most → Few n n
-few-all n h = record { within = omega arith; same = λ v̄ l. refl }
-
-pub few-most : (n : ℕ) → most ≤ n → Few n most
-few-most n h =
-    record { within = omega arith; same = λ v̄ l. take-all most v̄ (omega arith) ∙ sym (take-all n v̄ (omega arith)) }
-
--- a callee's values, one by one
-pub record Filled (v : List ℤ) (n : ℕ) (values : List ℤ) (i : ℕ) : Type 0 where
-  pub within : i ≤ n
-  pub few : n ≤ most
-  pub room : n ≤ length v
-  pub is : values ≡ take i v ++ replicate (16 - i) (pos 0)
-
-pub filled-starts : (v : List ℤ) (n : ℕ) → n ≤ most → length v ≡ most → Filled v n (replicate 16 (pos 0)) 0
-filled-starts v n h l = record { within = omega arith; few = h; room = omega arith; is = refl }
-
-pub filled-goes : (v : List ℤ) (n : ℕ) (values : List ℤ) (i : ℕ) → Filled v n values i → i < n → SFits w32 (getD v i (pos 0)) → Filled v n (set values i (toZ w32 (ofZ w32 (getD v i (pos 0))))) (i + 1)
-filled-goes v n values i h l f =
-    let z : 16 - i ≡ suc (16 - (i + 1)) = omega (arith, h .few) in
-    let t : take (i + 1) v ≡ take i v ++ (getD v i (pos 0) ∷ []) = rw (add-one i) (take-suc v i (pos 0) (omega (arith, h .room))) in
-    record {
-      within = omega arith;
-      few = h .few;
-      room = h .room;
-      is =
-          rw (toZ-ofZ f, h .is, z)
-          (set-at (take i v) (pos 0) (replicate (16 - (i + 1)) (pos 0)) (getD v i (pos 0)) i (length-take-le i v (omega (arith, h .room)))
-          ∙ sym (rw t (append-assoc (take i v) (getD v i (pos 0) ∷ []) (replicate (16 - (i + 1)) (pos 0)))));
-    }
-
-pub begun : (g n c : ℕ) (v : List ℤ) (r : Code.Frame) (Γ : ℕ) (values : List ℤ) (i : ℕ) → length v ≡ most → Few n c → Filled v c values i → c ≤ i → Γ ≡ below c → r ≡ record { function = g; block = 0; done = 0; bound = Γ; opened = 0; promoted = 0; calls = 0 ∷ 0 ∷ 0 ∷ 0 ∷ []; values = values } → modelOf r ≡ begin g (take n v)
-unfolding modelOf begin pad
-begun g n c v r Γ values i m f h l d q =
-    let e : i ≡ c = omega (arith, h .within) in
-    rw (← f .same v m, q, d, h .is, e, length-take-le c v (h .room))
-
--- the first temporaries, as code shifts them
-pub shifted-some : (n : ℕ) → n < 16 → 1 ≤ 1 * 2 ^ n % 65536
-shifted-some n h = rw (bit n h) (pow-pos n)
-
-pub shifted-below : (n : ℕ) → n < 16 → 1 * 2 ^ n % 65536 - 1 ≡ below n
-unfolding below
-shifted-below n h = rw (bit n h)
+      pub spawns : not there ≡ false → r ≡ acting Push g 0 n → Spawns s places m π out r
+      spawns u e P p = rw e (sym (child-of P p ∙ rw (not-false there u)))

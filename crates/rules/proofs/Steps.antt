@@ -1,11 +1,12 @@
 -- What the code's acts come to: each rule, from what the code read, looked up and entered.
-use Prim.Native.Nat.{ℕ, zero, suc, _+_, _-_, _^_, _≤_, _<_}
+use Prim.Native.Nat.{ℕ, zero, suc, _+_, _-_, _^_, _≤_, _<_, min}
 use mathlib.Core.Path.{_≡_, refl, sym, ap, subst, subst⁻¹, _∙_}
-use mathlib.Core.Bool.{Bool, true, false, not, cond}
+use mathlib.Core.Bool.{Bool, true, false, not, cond, true≢false}
 use mathlib.Core.Option.{Option, none, some}
 use mathlib.Core.List.{List, [], _∷_, _++_}
+use native.Mathlib.Nat.{min-eq-left, min-eq-right}
 use native.Mathlib.Omega.{arith}
-use borrow.Author.Tests.{eq-eqb, ne-eqb, lt-ltb, le-ltb, not-true, not-false}
+use borrow.Author.Tests.{eq-eqb, ne-eqb, eqb-true, eqb-false, lt-ltb, le-ltb, ltb-true, ltb-false, not-true, not-false}
 use mir.Val.{SFits, toZ, ofZ}
 use mir.Facts.{toZ-ofZ}
 use mir.Syntax.{w32}
@@ -15,8 +16,8 @@ use lib.ListN.{length, getElem?, take}
 use Rattle.model.specs.Numbers as No
 use Rattle.model.specs.Lists.{Snoc, snoc, unsnoc, equal}
 use Rattle.model.specs.Values.{same}
-use Rattle.model.specs.Syntax.{Program}
-use Rattle.model.specs.Pool.{Frame, mostCalls, begin, functionOf, blockOf}
+use Rattle.model.specs.Syntax.{Expression, Block, Program}
+use Rattle.model.specs.Pool.{Frame, temporaries, mostCalls, begin, functionOf, blockOf}
 use Rattle.model.specs.Frames as Frames
 use Rattle.model.specs.Frames.{when, lookAll, eval, bind, bindAll, goTo, deque, enter, callee}
 use Rattle.model.specs.Rules as Rules
@@ -27,18 +28,17 @@ use Rattle.model.proofs.Guarantees as Guarantees
 use Rattle.places.specs.declared.Place.the-variants.{At, Nowhere}
 use Rattle.places.specs.Places.{spawnIn, Places, FindsBlock, FindsSpawn}
 use Rattle.bytes.specs.Bytes.{byteAt, past}
-use Rattle.eval.specs.declared.Value.{Value}
+use Rattle.eval.specs.declared.Evaluated.{Evaluated}
 use Rattle.eval.specs.Code.{most, countAt, argumentsAt, listEnd, expressionAt, expressionEnd, statementAt, statementsEnd, headEnd, transferOf, transferAt}
-use Rattle.eval.specs.Given.{optional, valueOf, lookedIn}
-use Rattle.eval.proofs.Leaves.{value-none, value-some}
+use Rattle.eval.specs.Given.{optional, Evaluates, lookedIn}
 use Rattle.eval.proofs.Lists.{count-bound}
 use Rattle.eval.proofs.Decoding.{Codes, block-codes}
 use Rattle.rules.specs.declared.Acted.{Acted}
 use Rattle.rules.specs.declared.Does.{Does}
 use Rattle.rules.specs.declared.Does.the-variants.{Bind, Enter, Open, Close, Push, Pop, Join}
 use Rattle.rules.specs.Acts as Rule
-use Rattle.rules.specs.Acts.{acting, closed, actBy, Parameters, soundBy, Is, Entering, Enters, Takes}
-use Rattle.rules.proofs.Heads.{jam, passed-length, looked-none, looked-some, spawn-then}
+use Rattle.rules.specs.Acts.{acting, jam, closed, actBy, Parameters, soundBy, Is, Entering, Enters, Takes}
+use Rattle.rules.proofs.Heads.{passed-length, looked-none, looked-some, spawn-then}
 
 module _ (s : List ℕ) (m : Frame) (out : List ℤ) (r : Acted) where
   -- the same act
@@ -50,22 +50,18 @@ module _ (s : List ℕ) (m : Frame) (out : List ℤ) (r : Acted) where
   refused e d = rw e (record { act = sym d; sound = tt })
 
   -- a block entered by a rule with the values passed on
-  entered : (P : Program) (rule f b n : ℕ) → m .function ≡ f → length (take n out) ≡ n → Entering s P f b n (Enter rule) r
+  entered : (P : Program) (rule f b n : ℕ) → m .function ≡ f → length (take n out) ≡ n → Entering s P f b n Enter rule r
       → Is s m out r (by rule (enter P m b (take n out)))
   unfolding by
-  entered P rule f b n h l (Entering.arrives d a) =
+  entered P rule f b n h l (Entering.arrives a) =
       record {
         act =
-            ap (λ (x : Does). actBy x s m r out) d
-            ∙ ap (Rules.Act.stay rule) (λ i. bindAll (goTo m (a .block i) 0) (argumentsAt s (r .parameters)) (take (a .count i) out))
+            ap (λ (x : Does). actBy x s m r out) (a .does)
+            ∙ (λ i. Rules.Act.stay (a .number i) (bindAll (goTo m (a .block i) 0) (argumentsAt s (r .parameters)) (take (a .count i) out)))
             ∙ sym (ap (by rule) (a .is m (take n out) h l));
-        sound = subst⁻¹ (λ (x : Does). soundBy x s m r) d (subst⁻¹ (Parameters s (r .parameters)) (a .count) (a .parameters));
+        sound = subst⁻¹ (λ (x : Does). soundBy x s m r) (a .does) (subst⁻¹ (Parameters s (r .parameters)) (a .count) (a .parameters));
       }
-  entered P rule f b n h l (Entering.jams d a) =
-      record {
-        act = ap (λ (x : Does). actBy x s m r out) d ∙ sym (ap (by rule) (a m (take n out) h l));
-        sound = subst⁻¹ (λ (x : Does). soundBy x s m r) d tt;
-      }
+  entered P rule f b n h l (Entering.jams e a) = refused e (ap (by rule) (a m (take n out) h l))
 
   bind-none : (k : Frame) (ȳ : List ℕ) → bindAll k ȳ [] ≡ k
   unfolding bindAll
@@ -73,41 +69,20 @@ module _ (s : List ℕ) (m : Frame) (out : List ℤ) (r : Acted) where
   bind-none k (y ∷ ȳ) = refl
 
   -- a block entered with no values by the frame k, which is m changed
-  moved : (P : Program) (does : Does) (rule f b : ℕ) (k : Frame) → ((a : Acted) → actBy does s m a out ≡ Rules.Act.stay rule (goTo k (a .block) 0))
-      → soundBy does s m r → k .function ≡ f → Entering s P f b 0 does r → Is s m out r (by rule (enter P k b []))
+  moved : (P : Program) (does : Does) (rule f b x : ℕ) (k : Frame)
+      → ((a : Acted) → a .number ≡ x → actBy does s m a out ≡ Rules.Act.stay rule (goTo k (a .block) 0))
+      → soundBy does s m r → k .function ≡ f → Entering s P f b 0 does x r → Is s m out r (by rule (enter P k b []))
   unfolding by
-  moved P does rule f b k e z h (Entering.arrives d a) =
+  moved P does rule f b x k e z h (Entering.arrives a) =
       record {
         act =
-            ap (λ (x : Does). actBy x s m r out) d
-            ∙ e r
+            ap (λ (y : Does). actBy y s m r out) (a .does)
+            ∙ e r (a .number)
             ∙ ap (λ (c : ℕ). Rules.Act.stay rule (goTo k c 0)) (a .block)
             ∙ sym (ap (by rule) (a .is k [] h refl ∙ ap some (bind-none (goTo k b 0) (argumentsAt s (r .parameters)))));
-        sound = subst⁻¹ (λ (x : Does). soundBy x s m r) d z;
+        sound = subst⁻¹ (λ (y : Does). soundBy y s m r) (a .does) z;
       }
-  moved P does rule f b k e z h (Entering.jams d a) =
-      record {
-        act = ap (λ (x : Does). actBy x s m r out) d ∙ sym (ap (by rule) (a k [] h refl));
-        sound = subst⁻¹ (λ (x : Does). soundBy x s m r) d tt;
-      }
-
--- stmt
-module _ (s : List ℕ) (m : Frame) (at : ℕ) (v : Value) {f : ℕ} (e₁ : f ≡ past at 1) (e₂ : valueOf v ≡ eval m (expressionAt s f)) where
-  at-expression : valueOf v ≡ eval m (expressionAt s (past at 1))
-  at-expression = e₂ ∙ ap (λ (i : ℕ). eval m (expressionAt s i)) e₁
-
-  pub stmt-stuck : (r : Acted) → not (v .ok) ≡ true → r ≡ jam → Rule.Stmt s m at r
-  unfolding stmt by statementAt
-  stmt-stuck r t h l d out = refused s m out r h (rw (value-none v _ at-expression (not-true (v .ok) t)))
-
-  pub stmt-goes : {x : ℕ} → not (v .ok) ≡ false → SFits w32 (v .value) → x ≡ byteAt s at
-      → Rule.Stmt s m at (record { does = Bind x; block = 0; count = 0; value = toZ w32 (ofZ w32 (v .value)); parameters = 0 })
-  unfolding stmt by statementAt
-  stmt-goes {x} t f e₃ l d out =
-      record { act = rw (toZ-ofZ f, e₃) (sym (is (value-some v _ at-expression (not-false (v .ok) t)))); sound = (rw e₃ l, d) }
-    where
-      is : eval m (expressionAt s (past at 1)) ≡ some (v .value) → stmt m (statementAt s at) ≡ Rules.Act.stay No.stmt (goTo (bind m (byteAt s at) (v .value)) (m .block) (m .done + 1))
-      is e = rw e
+  moved P does rule f b x k e z h (Entering.jams j a) = refused j (ap (by rule) (a k [] h refl))
 
 -- goto
 module _ (s places : List ℕ) (m : Frame) (at : ℕ) (out : List ℤ) (r : Acted) (ok : Bool) {l : ℕ} (e₁ : l ≡ past at 1) (e₂ : lookedIn s l ok out ≡ lookAll m (argumentsAt s l)) where
@@ -121,7 +96,7 @@ module _ (s places : List ℕ) (m : Frame) (at : ℕ) (out : List ℤ) (r : Acte
   unfolding goto by
   goto-stuck t h P p = refused s m out r h (rw (unbound t))
 
-  pub goto-goes : {f b n : ℕ} → not ok ≡ false → length out ≡ most → f ≡ m .function → b ≡ byteAt s at → n ≡ countAt s l → Enters s places f b n (Enter No.goto) r → Rule.Goto s places m at out r
+  pub goto-goes : {f b n : ℕ} → not ok ≡ false → length out ≡ most → f ≡ m .function → b ≡ byteAt s at → n ≡ countAt s l → Enters s places f b n Enter No.goto r → Rule.Goto s places m at out r
   unfolding goto
   goto-goes {f} {b} {n} t z h e₃ e₄ d P p =
       is-to s m out r (entered s m out r P No.goto f b n (sym h) (passed-length s l out z e₄) (d P p)) (sym (rw (given t, ← e₃, ← e₄)))
@@ -143,11 +118,11 @@ module _ (s places : List ℕ) (m : Frame) (at : ℕ) (out : List ℤ) (r : Acte
     unfolding call acts blockOf functionOf
     call-nowhere u q d h P p = refused s m out r h (rw (given t, callee-is P p, not-false there u, ← q, d s P p))
 
-    pub call-goes : (i : ℕ) {f : ℕ} → not there ≡ false → f ≡ m .function → FindsBlock places f b (At i) → r ≡ acting (Push g) b n → Rule.Call s places m at b out r
+    pub call-goes : (i : ℕ) {f : ℕ} → not there ≡ false → f ≡ m .function → FindsBlock places f b (At i) → r ≡ acting Push g b n → Rule.Call s places m at b out r
     unfolding call acts blockOf functionOf
     call-goes i u q d h P p =
         let (B, w, _) = d s P p in
-        rw h (record { act = sym (rw (given t, callee-is P p, not-false there u, ← q, w)); sound = count-bound s l e₄ })
+        rw h (record { act = sym (rw (given t, callee-is P p, not-false there u, ← q, w)); sound = tt })
 
 -- a value's bits are 0 exactly if it is
 pub bits-zero : (v : ℤ) → SFits w32 v → ofZ w32 v ≡ 0 → same v (pos 0) ≡ true
@@ -160,26 +135,52 @@ bits-some (negsuc n) h = refl
 
 -- then, else
 module _ (s places : List ℕ) (f b c : ℕ) (v : ℤ) (r : Acted) where
-  pub branch-else : same v (pos 0) ≡ true → Enters s places f c 0 (Enter No.else) r → Rule.Branch s places f b c v r
+  pub branch-else : same v (pos 0) ≡ true → Enters s places f c 0 Enter No.else r → Rule.Branch s places f b c v r
   unfolding branch
   branch-else t d P p m h out = rw t (entered s m out r P No.else f c 0 h refl (d P p))
 
-  pub branch-then : same v (pos 0) ≡ false → Enters s places f b 0 (Enter No.then) r → Rule.Branch s places f b c v r
+  pub branch-then : same v (pos 0) ≡ false → Enters s places f b 0 Enter No.then r → Rule.Branch s places f b c v r
   unfolding branch
   branch-then t d P p m h out = rw t (entered s m out r P No.then f b 0 h refl (d P p))
 
--- if
-module _ (s places : List ℕ) (m : Frame) (at : ℕ) (v : Value) (r : Acted) (e₁ : valueOf v ≡ eval m (expressionAt s at)) where
-  pub if-stuck : not (v .ok) ≡ true → r ≡ jam → Rule.If s places m at r
-  unfolding if acts
-  if-stuck t h P p out = refused s m out r h (rw (value-none v _ e₁ (not-true (v .ok) t)))
+-- what an evaluation says where the flag is down, and up
+module _ {A : Type 0} (ok : Bool) (a : A) {o : Option A} (e : optional ok a ≡ o) where
+  none-of : not ok ≡ true → o ≡ none
+  none-of t = sym e ∙ ap (λ (b : Bool). optional b a) (not-true ok t)
 
-  pub if-goes : {i j b c f : ℕ} → not (v .ok) ≡ false → SFits w32 (v .value) → i ≡ expressionEnd s at → f ≡ m .function → b ≡ byteAt s i → j ≡ past i 1 → c ≡ byteAt s j → Rule.Branch s places f b c (toZ w32 (ofZ w32 (v .value))) r → Rule.If s places m at r
+  some-of : not ok ≡ false → o ≡ some a
+  some-of t = sym e ∙ ap (λ (b : Bool). optional b a) (not-false ok t)
+
+-- stmt, if
+module _ (s places : List ℕ) (f x : ℕ) (v : Evaluated) where
+  pub valued-stuck : (statement : Bool) (r : Acted) → not (v .ok) ≡ true → r ≡ jam → Rule.Valued statement s places f x v r
+  unfolding stmt if by acts
+  valued-stuck true r t h = λ m e q l d out. refused s m out r h (rw (none-of (v .ok) (v .value) q t))
+  valued-stuck false r t h = λ P p m g e q b c w out. refused s m out r h (rw (none-of (v .ok) (v .value) q t))
+
+  pub valued-stmt : (statement : Bool) → statement ≡ true → not (v .ok) ≡ false → SFits w32 (v .value)
+      → Rule.Valued statement s places f x v (record { does = Bind; number = x; block = 0; count = 0; value = toZ w32 (ofZ w32 (v .value)); parameters = 0 })
+  unfolding stmt by
+  valued-stmt false z t g = absurd (true≢false (sym z))
+  valued-stmt true z t g =
+      λ m e q l d out.
+      record { act = rw (toZ-ofZ g) (sym (is m e (some-of (v .ok) (v .value) q t))); sound = (l, d) }
+    where
+      is : (m : Frame) (e : Expression) → eval m e ≡ some (v .value)
+          → stmt m (record { target = x; source = e }) ≡ Rules.Act.stay No.stmt (goTo (bind m x (v .value)) (m .block) (m .done + 1))
+      is m e y = rw y
+
+  pub valued-if : (statement : Bool) (r : Acted) {b j c : ℕ} → statement ≡ false → not (v .ok) ≡ false → SFits w32 (v .value)
+      → b ≡ byteAt s (v .end) → j ≡ past (v .end) 1 → c ≡ byteAt s j → Rule.Branch s places f b c (toZ w32 (ofZ w32 (v .value))) r
+      → Rule.Valued statement s places f x v r
   unfolding if acts
-  if-goes {i} {j} {b} {c} {f} t g e₂ h e₃ e₄ e₅ d P p out =
-      let q : byteAt s (expressionEnd s at) ≡ b = ap (byteAt s) (sym e₂) ∙ sym e₃ in
-      let w : byteAt s (past (expressionEnd s at) 1) ≡ c = ap (λ (n : ℕ). byteAt s (past n 1)) (sym e₂) ∙ ap (byteAt s) (sym e₄) ∙ sym e₅ in
-      is-to s m out r (d P p m (sym h) out) (sym (rw (value-some v _ e₁ (not-false (v .ok) t), q, w, toZ-ofZ g)))
+  valued-if true r z t g e₁ e₂ e₃ d = absurd (true≢false z)
+  valued-if false r z t g e₁ e₂ e₃ d =
+      λ P p m h e q b c w out.
+      let (w₁, w₂) = w (not-false (v .ok) t) in
+      let y₁ = w₁ ∙ sym e₁ in
+      let y₂ = w₂ ∙ ap (byteAt s) (sym e₂) ∙ sym e₃ in
+      is-to s m out r (d P p m h out) (sym (rw (some-of (v .ok) (v .value) q t, y₁, y₂, toZ-ofZ g)))
 
 -- return
 pub no-calls : (xs : List ℕ) → length xs ≡ 0 → equal xs [] ≡ true
@@ -201,7 +202,7 @@ module _ (s : List ℕ) (m : Frame) (at : ℕ) (out : List ℤ) (r : Acted) (ok 
   unfolding return acts when
   return-open t e z h = refused s m out r h (rw (looked-some s at ok out _ e₁ t, some-calls (m .calls) (λ q. z (e ∙ q))))
 
-  pub return-goes : {n c : ℕ} → not ok ≡ false → n ≡ length (m .calls) → n ≡ 0 → c ≡ countAt s at → r ≡ acting Pop 0 c → Rule.Return s m at out r
+  pub return-goes : {n c : ℕ} → not ok ≡ false → n ≡ length (m .calls) → n ≡ 0 → c ≡ countAt s at → r ≡ acting Pop 0 0 c → Rule.Return s m at out r
   unfolding return acts when
   return-goes t e z d h =
       rw h (record { act = sym (rw (looked-some s at ok out _ e₁ t, no-calls (m .calls) (sym e ∙ z), ← d)); sound = count-bound s at d })
@@ -222,12 +223,12 @@ module _ (s places : List ℕ) (m : Frame) (b π : ℕ) (r : Acted) {f : ℕ} (h
       let (S, q, _) = d s P p in
       refused s m out r e (spork-is P ∙ rw (q, ← z, le-ltb n mostCalls l))
 
-  pub spork-goes : (at : ℕ) {n : ℕ} → FindsSpawn places f π (At at) → n ≡ length (m .calls) → n < mostCalls → Enters s places f b 0 (Open π) r → Rule.Spork s places m b π r
+  pub spork-goes : (at : ℕ) {n : ℕ} → FindsSpawn places f π (At at) → n ≡ length (m .calls) → n < mostCalls → Enters s places f b 0 Open π r → Rule.Spork s places m b π r
   unfolding when deque
   spork-goes at {n} d z l e P p out =
       let (S, q, _) = d s P p in
       is-to s m out r
-      (moved s m out r P (Open π) No.spork f b (deque m (m .calls ++ (π ∷ [])) (m .promoted)) (λ a. refl) (rw (← z) l) (sym h) (e P p))
+      (moved s m out r P Open No.spork f b π (deque m (m .calls ++ (π ∷ [])) (m .promoted)) (λ a e. rw e) (rw (← z) l) (sym h) (e P p))
       (sym (spork-is P ∙ rw (q, ← z, lt-ltb n mostCalls l)))
 
 -- spoin
@@ -261,14 +262,14 @@ module _ (s places : List ℕ) (m : Frame) (b c : ℕ) (r : Acted) {n : ℕ} (e 
         let (I, p, w) = unsnoc-take (m .calls) (λ y. z (e ∙ y)) in
         rw (p, w, ← d, ← e)
 
-    pub spoin-unpromoted : {f : ℕ} → q < n → f ≡ m .function → Enters s places f b 0 Close r → Rule.Spoin s places m b c r
+    pub spoin-unpromoted : {f : ℕ} → q < n → f ≡ m .function → Enters s places f b 0 Close 0 r → Rule.Spoin s places m b c r
     unfolding closing deque
     spoin-unpromoted {f} l h g P p out =
         is-to s m out r
-        (moved s m out r P Close No.unpr f b (closed m (m .promoted)) (λ a. refl) (omega arith) (sym h) (g P p))
+        (moved s m out r P Close No.unpr f b 0 (closed m (m .promoted)) (λ a e. refl) (omega arith) (sym h) (g P p))
         (sym (spoin-is P ∙ rw (lt-ltb q n l)))
 
-    pub spoin-promoted : n ≤ q → r ≡ acting (Join c) 0 0 → Rule.Spoin s places m b c r
+    pub spoin-promoted : n ≤ q → r ≡ acting Join c 0 0 → Rule.Spoin s places m b c r
     unfolding closing
     spoin-promoted l h P p out =
         rw h (record { act = sym (spoin-is P ∙ rw (le-ltb q n l)); sound = (omega arith, omega arith) })
@@ -282,26 +283,22 @@ module _ (s : List ℕ) (m : Frame) (at : ℕ) {kind f : ℕ} (e₁ : kind ≡ b
 module _ (s places : List ℕ) (m : Frame) (at : ℕ) (out : List ℤ) (r : Acted) {kind f : ℕ} (e₁ : kind ≡ byteAt s at) (e₂ : f ≡ past at 1) where
   pub transfer-goto : kind ≡ 0 → Rule.Goto s places m f out r → Rule.Transfer s places m at out r
   unfolding transferOf transfer
-  transfer-goto q h P p = is-to s m out r (h P p) (sym (kind-is s m at e₁ e₂ P 0 q))
-
-  pub transfer-if : kind ≡ 1 → Rule.If s places m f r → Rule.Transfer s places m at out r
-  unfolding transferOf transfer
-  transfer-if q h P p = is-to s m out r (h P p out) (sym (kind-is s m at e₁ e₂ P 1 q))
+  transfer-goto q h o P p = is-to s m out r (h P p) (sym (kind-is s m at e₁ e₂ P 0 q))
 
   pub transfer-call : {g l b : ℕ} → kind ≡ 2 → g ≡ past f 1 → l ≡ listEnd s g → b ≡ byteAt s l → Rule.Call s places m f b out r → Rule.Transfer s places m at out r
   unfolding transferOf transfer
-  transfer-call q e₃ e₄ e₅ h P p =
+  transfer-call q e₃ e₄ e₅ h o P p =
       is-to s m out r (h P p)
       (ap (λ (i : ℕ). call P m (byteAt s f) (argumentsAt s (past f 1)) i) (e₅ ∙ ap (byteAt s) (e₄ ∙ ap (listEnd s) e₃)) ∙ sym (kind-is s m at e₁ e₂ P 2 q))
 
   pub transfer-return : kind ≡ 3 → Rule.Return s m f out r → Rule.Transfer s places m at out r
   unfolding transferOf transfer
-  transfer-return q h P p = is-to s m out r h (sym (kind-is s m at e₁ e₂ P 3 q))
+  transfer-return q h o P p = is-to s m out r h (sym (kind-is s m at e₁ e₂ P 3 q))
 
-  pub transfer-ends : {g b c : ℕ} → (kind ≡ 0 → ⊥) → (kind ≡ 1 → ⊥) → (kind ≡ 2 → ⊥) → (kind ≡ 3 → ⊥) → g ≡ past f 1 → b ≡ byteAt s f → c ≡ byteAt s g → Rule.Ends s places m kind b c r → Rule.Transfer s places m at out r
+  pub transfer-ends : {g b c : ℕ} → (kind ≡ 0 → ⊥) → (kind ≡ 2 → ⊥) → (kind ≡ 3 → ⊥) → g ≡ past f 1 → b ≡ byteAt s f → c ≡ byteAt s g → Rule.Ends s places m kind b c r → Rule.Transfer s places m at out r
   unfolding transferOf transfer
-  transfer-ends {g} {b} {c} z₀ z₁ z₂ z₃ e₃ e₄ e₅ h P p =
-      is-to s m out r (h P p out) (rw (e₄, e₅, e₃) (go kind z₀ z₁ z₂ z₃) ∙ sym (kind-is s m at e₁ e₂ P kind refl))
+  transfer-ends {g} {b} {c} z₀ z₂ z₃ e₃ e₄ e₅ h o P p =
+      is-to s m out r (h P p out) (rw (e₄, e₅, e₃) (go kind z₀ (λ q. o (sym e₁ ∙ q)) z₂ z₃) ∙ sym (kind-is s m at e₁ e₂ P kind refl))
     where
       go : (n : ℕ) → (n ≡ 0 → ⊥) → (n ≡ 1 → ⊥) → (n ≡ 2 → ⊥) → (n ≡ 3 → ⊥) → cond (eqb n 4) (spork P m (byteAt s f) (byteAt s (past f 1))) (spoin P m (byteAt s f) (byteAt s (past f 1))) ≡ transfer P m (transferOf n s f)
       go zero a b c d = absurd (a refl)
@@ -318,21 +315,56 @@ module _ (s places : List ℕ) (m : Frame) (kind b c : ℕ) (r : Acted) where
   pub ends-spoin : (kind ≡ 4 → ⊥) → Rule.Spoin s places m b c r → Rule.Ends s places m kind b c r
   ends-spoin q h P p out = rw (ne-eqb kind 4 q) (h P p out)
 
--- what comes next
-module _ (s places : List ℕ) (m : Frame) (at : ℕ) (out : List ℤ) (r : Acted) {n f done : ℕ} (e₁ : n ≡ byteAt s at) (e₂ : f ≡ past at 1) (e₃ : done ≡ m .done) where
-  pub coming-stmt : {i : ℕ} → n < 256 → done < n → i ≡ statementsEnd s f done → Rule.Stmt s m i r → Rule.Coming s places m at out r
-  unfolding coming statementAt
-  coming-stmt {i} z l e₄ h P p B d t =
-      let q : statementsEnd s (past at 1) (m .done) ≡ i = rw (← e₂, ← e₃) (sym e₄) in
-      let a : getElem? (B .code) (m .done) ≡ some (statementAt s i) = d .items (m .done) (omega (arith, d .count)) ∙ rw q in
-      rw a (h (each-at InStatement (B .code) (m .done) t a .target) (omega arith) out)
+-- where what comes next stands
+module _ (s : List ℕ) (at : ℕ) {done n r : ℕ} where
+  pub next-among : done < n → r ≡ statementsEnd s at done → r ≡ statementsEnd s at (min done n)
+  next-among l e = let y : min done n ≡ done = min-eq-left (omega arith) in rw y e
 
-  pub coming-transfer : {i : ℕ} → n ≤ done → i ≡ statementsEnd s f n → Rule.Transfer s places m i out r → Rule.Coming s places m at out r
+  pub next-behind : n ≤ done → r ≡ statementsEnd s at n → r ≡ statementsEnd s at (min done n)
+  next-behind l e = let y : min done n ≡ n = min-eq-right l in rw y e
+
+-- what comes next, at i
+module _ (s places : List ℕ) (m : Frame) (at : ℕ) (out : List ℤ) (r : Acted) {n f done i x : ℕ} (e₁ : n ≡ byteAt s at) (e₂ : f ≡ past at 1) (e₃ : done ≡ m .done) (e₄ : i ≡ statementsEnd s f (min done n)) (e₅ : x ≡ byteAt s i) where
+  next-statement : (B : Block) → Codes s at B → done < n → getElem? (B .code) (m .done) ≡ some (statementAt s i)
+  next-statement B d l =
+      let y : min done n ≡ done = min-eq-left (omega arith) in
+      let q : statementsEnd s (past at 1) (m .done) ≡ i = rw (← e₂, ← e₃) (sym (e₄ ∙ ap (statementsEnd s f) y)) in
+      d .items (m .done) (omega (arith, d .count)) ∙ rw q
+
+  next-transfer : (P : Program) (B : Block) → Codes s at B → n ≤ done → coming P m B (getElem? (B .code) (m .done)) ≡ transfer P m (transferAt s i)
   unfolding coming
-  coming-transfer {i} l e₄ h P p B d t =
-      let q : statementsEnd s (past at 1) (byteAt s at) ≡ i = rw (← e₁, ← e₂) (sym e₄) in
+  next-transfer P B d l =
+      let y : min done n ≡ n = min-eq-right l in
+      let q : statementsEnd s (past at 1) (byteAt s at) ≡ i = rw (← e₁, ← e₂) (sym (e₄ ∙ ap (statementsEnd s f) y)) in
       let a : getElem? (B .code) (m .done) ≡ none = past-at (B .code) (m .done) (omega (arith, d .count)) in
-      rw a (is-to s m out r (h P p) (ap (transfer P m) (sym (d .transfer ∙ rw q))))
+      rw a (ap (transfer P m) (d .transfer ∙ rw q))
+
+  pub coming-transfer : ltb done n ≡ false → eqb x 1 ≡ false → Rule.Transfer s places m i out r → Rule.Coming s places m at out r
+  coming-transfer l o h P p B d t =
+      is-to s m out r (h (λ q. eqb-false x 1 o (e₅ ∙ q)) P p) (sym (next-transfer P B d (ltb-false done n l)))
+
+  -- its expression was evaluated
+  module _ {j g : ℕ} (v : Evaluated) (e₆ : j ≡ past i 1) (e₇ : Evaluates m s j v) (h : g ≡ m .function) where
+    came : optional (v .ok) (v .value) ≡ eval m (expressionAt s (past i 1))
+    came = e₇ .is ∙ ap (λ (k : ℕ). eval m (expressionAt s k)) e₆
+
+    pub coming-stmt : n < 256 → ltb done n ≡ true → Rule.Valued (ltb done n) s places g x v r → Rule.Coming s places m at out r
+    unfolding coming statementAt
+    coming-stmt z l h₁ P p B d t =
+        let o = ltb-true done n l in
+        let a = next-statement B d o in
+        let w : x < temporaries = rw e₅ (each-at InStatement (B .code) (m .done) t a .target) in
+        let u : Rule.Valued true s places g x v r = subst (λ (q : Bool). Rule.Valued q s places g x v r) l h₁ in
+        rw (a, ← e₅) (u m (expressionAt s (past i 1)) came w (omega arith) out)
+
+    pub coming-if : ltb done n ≡ false → eqb x 1 ≡ true → Rule.Valued (ltb done n) s places g x v r → Rule.Coming s places m at out r
+    unfolding transfer transferOf
+    coming-if l o h₁ P p B d t =
+        let u : Rule.Valued false s places g x v r = subst (λ (q : Bool). Rule.Valued q s places g x v r) l h₁ in
+        is-to s m out r
+        (u P p m (sym h) (expressionAt s (past i 1)) came _ _
+        (λ y. let q = e₇ .end y ∙ ap (expressionEnd s) e₆ in (ap (byteAt s) (sym q), ap (λ (k : ℕ). byteAt s (past k 1)) (sym q))) out)
+        (sym (next-transfer P B d (ltb-false done n l) ∙ kind-is s m i e₅ refl P 1 (eqb-true x 1 o)))
 
 -- what a frame does next
 module _ (s places : List ℕ) (m : Frame) (out : List ℤ) (r : Acted) {f b : ℕ} (h : f ≡ m .function) (g : b ≡ m .block) where

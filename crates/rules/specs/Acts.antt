@@ -2,7 +2,7 @@
 -- frame m is the one that stands in the words; the values that an act passes on are the first of a buffer.
 use Prim.Native.Nat.{ℕ, _+_, _-_, _<_, _≤_}
 use mathlib.Core.Path.{_≡_}
-use mathlib.Core.Bool.{Bool, cond}
+use mathlib.Core.Bool.{Bool, true, false, cond}
 use mathlib.Core.Option.{Option, none, some}
 use mathlib.Core.List.{List, [], _∷_, _++_}
 use lib.Dec.{eqb}
@@ -12,14 +12,15 @@ use Rattle.model.specs.Numbers as No
 use Rattle.model.specs.Lists.{Each}
 use Rattle.model.specs.Limits.{InStatement}
 use Rattle.model.specs.Values.{same}
-use Rattle.model.specs.Syntax.{Block, Program}
+use Rattle.model.specs.Syntax.{Expression, Block, Program}
 use Rattle.model.specs.Pool.{Frame, temporaries, mostCalls, begin}
-use Rattle.model.specs.Frames.{goTo, bind, bindAll, deque, callee, enter}
+use Rattle.model.specs.Frames.{eval, goTo, bind, bindAll, deque, callee, enter}
 use Rattle.model.specs.Rules as Rules
 use Rattle.places.specs.Places.{Places}
 use Rattle.bytes.specs.Bytes.{byteAt, past}
+use Rattle.eval.specs.declared.Evaluated.{Evaluated}
 use Rattle.eval.specs.Given.{optional}
-use Rattle.eval.specs.Code.{most, countAt, argumentsAt, expressionAt, expressionEnd, statementAt, transferAt}
+use Rattle.eval.specs.Code.{most, countAt, argumentsAt, transferAt}
 use Rattle.eval.proofs.Decoding.{Codes}
 use Rattle.rules.specs.declared.Acted.{Acted}
 use Rattle.rules.specs.declared.Ended.{Ended}
@@ -28,8 +29,12 @@ use Rattle.rules.specs.declared.Does.{Does}
 use Rattle.rules.specs.declared.Does.the-variants.{Refuse, Bind, Enter, Open, Close, Push, Pop, Join}
 
 -- an act with no value and no parameters
-abbrev pub acting : Does → ℕ → ℕ → Acted
-acting d b n = record { does = d; block = b; count = n; value = pos 0; parameters = 0 }
+abbrev pub acting : Does → ℕ → ℕ → ℕ → Acted
+acting d x b n = record { does = d; number = x; block = b; count = n; value = pos 0; parameters = 0 }
+
+-- the act of a frame to which no rule applies
+abbrev pub jam : Acted
+jam = acting Refuse No.stuck 0 0
 
 -- the values that an act passes on
 abbrev pub passed : Acted → List ℤ → List ℤ
@@ -45,14 +50,14 @@ closed m promoted = deque m (take (length (m .calls) - 1) (m .calls)) promoted
 
 -- the act, of the frame m
 abbrev pub actBy : Does → List ℕ → Frame → Acted → List ℤ → Rules.Act
-actBy (Refuse n) s m a out = Rules.Act.refuse n
-actBy (Bind x) s m a out = Rules.Act.stay No.stmt (goTo (bind m x (a .value)) (m .block) (m .done + 1))
-actBy (Enter rule) s m a out = Rules.Act.stay rule (arrived s a out m)
-actBy (Open π) s m a out = Rules.Act.stay No.spork (goTo (deque m (m .calls ++ (π ∷ [])) (m .promoted)) (a .block) 0)
+actBy Refuse s m a out = Rules.Act.refuse (a .number)
+actBy Bind s m a out = Rules.Act.stay No.stmt (goTo (bind m (a .number) (a .value)) (m .block) (m .done + 1))
+actBy Enter s m a out = Rules.Act.stay (a .number) (arrived s a out m)
+actBy Open s m a out = Rules.Act.stay No.spork (goTo (deque m (m .calls ++ (a .number ∷ [])) (m .promoted)) (a .block) 0)
 actBy Close s m a out = Rules.Act.stay No.unpr (goTo (closed m (m .promoted)) (a .block) 0)
-actBy (Push g) s m a out = Rules.Act.push (goTo m (a .block) 0) (begin g (passed a out))
+actBy Push s m a out = Rules.Act.push (goTo m (a .block) 0) (begin (a .number) (passed a out))
 actBy Pop s m a out = Rules.Act.pop (passed a out)
-actBy (Join c) s m a out = Rules.Act.join (closed m (m .promoted - 1)) c
+actBy Join s m a out = Rules.Act.join (closed m (m .promoted - 1)) (a .number)
 
 abbrev pub actOf : List ℕ → Frame → Acted → List ℤ → Rules.Act
 actOf s m a out = actBy (a .does) s m a out
@@ -64,14 +69,14 @@ pub record Parameters (s : List ℕ) (at n : ℕ) : Type 0 where
 
 -- what holds besides, so that the act can be done in the words
 abbrev pub soundBy : Does → List ℕ → Frame → Acted → Type 0
-soundBy (Refuse n) s m a = Unit {0}
-soundBy (Bind x) s m a = (x < temporaries) × (m .done < 255)
-soundBy (Enter rule) s m a = Parameters s (a .parameters) (a .count)
-soundBy (Open π) s m a = length (m .calls) < mostCalls
+soundBy Refuse s m a = Unit {0}
+soundBy Bind s m a = (a .number < temporaries) × (m .done < 255)
+soundBy Enter s m a = Parameters s (a .parameters) (a .count)
+soundBy Open s m a = length (m .calls) < mostCalls
 soundBy Close s m a = 0 < length (m .calls)
-soundBy (Push g) s m a = a .count ≤ most
+soundBy Push s m a = Unit {0}
 soundBy Pop s m a = a .count ≤ most
-soundBy (Join c) s m a = (0 < length (m .calls)) × (0 < m .promoted)
+soundBy Join s m a = (0 < length (m .calls)) × (0 < m .promoted)
 
 -- the code's act r, with the buffer, is the act t of the frame m
 pub record Is (s : List ℕ) (m : Frame) (out : List ℤ) (r : Acted) (t : Rules.Act) : Type 0 where
@@ -80,25 +85,21 @@ pub record Is (s : List ℕ) (m : Frame) (out : List ℤ) (r : Acted) (t : Rules
 
 -- block b of function f is entered with n values: the code answers what it was given to do, with the place of the parameters, or
 -- the block is not there or takes another number
-pub record Arrives (s : List ℕ) (P : Program) (f b n : ℕ) (r : Acted) : Type 0 where
+pub record Arrives (s : List ℕ) (P : Program) (f b n : ℕ) (d : Does) (x : ℕ) (r : Acted) : Type 0 where
+  pub does : r .does ≡ d
+  pub number : r .number ≡ x
   pub block : r .block ≡ b
   pub count : r .count ≡ n
   pub parameters : Parameters s (r .parameters) n
   pub is : (m : Frame) (v̄ : List ℤ) → m .function ≡ f → length v̄ ≡ n →
       enter P m b v̄ ≡ some (bindAll (goTo m b 0) (argumentsAt s (r .parameters)) v̄)
 
-pub data Entering (s : List ℕ) (P : Program) (f b n : ℕ) (does : Does) (r : Acted) : Type 0 where
-  arrives : r .does ≡ does → Arrives s P f b n r → Entering s P f b n does r
-  jams : r .does ≡ Refuse No.stuck → ((m : Frame) (v̄ : List ℤ) → m .function ≡ f → length v̄ ≡ n → enter P m b v̄ ≡ none) →
-      Entering s P f b n does r
+pub data Entering (s : List ℕ) (P : Program) (f b n : ℕ) (d : Does) (x : ℕ) (r : Acted) : Type 0 where
+  arrives : Arrives s P f b n d x r → Entering s P f b n d x r
+  jams : r ≡ jam → ((m : Frame) (v̄ : List ℤ) → m .function ≡ f → length v̄ ≡ n → enter P m b v̄ ≡ none) → Entering s P f b n d x r
 
-abbrev pub Enters : List ℕ → List ℕ → ℕ → ℕ → ℕ → Does → Acted → Type 0
-Enters s places f b n does r = (P : Program) → Places s P places → Entering s P f b n does r
-
--- a number of values, of which a buffer has no more than 8
-pub record Few (n r : ℕ) : Type 0 where
-  pub within : r ≤ most
-  pub same : (v̄ : List ℤ) → length v̄ ≡ most → take r v̄ ≡ take n v̄
+abbrev pub Enters : List ℕ → List ℕ → ℕ → ℕ → ℕ → Does → ℕ → Acted → Type 0
+Enters s places f b n d x r = (P : Program) → Places s P places → Entering s P f b n d x r
 
 -- function g is there and takes n values
 abbrev pub Takes : List ℕ → List ℕ → ℕ → ℕ → Bool → Type 0
@@ -107,28 +108,19 @@ Takes s places g n r =
 
 -- a spawned child's first frame, where the act is a call
 abbrev pub childBy : Does → Acted → List ℤ → Option Frame
-childBy (Refuse n) a out = none
-childBy (Bind x) a out = none
-childBy (Enter rule) a out = none
-childBy (Open π) a out = none
+childBy Refuse a out = none
+childBy Bind a out = none
+childBy Enter a out = none
+childBy Open a out = none
 childBy Close a out = none
-childBy (Push g) a out = some (begin g (passed a out))
+childBy Push a out = some (begin (a .number) (passed a out))
 childBy Pop a out = none
-childBy (Join c) a out = none
-
-pub record Spawned (P : Program) (m : Frame) (π : ℕ) (out : List ℤ) (r : Acted) : Type 0 where
-  pub child : childBy (r .does) r out ≡ Rules.child P m π
-  pub few : r .count ≤ most
+childBy Join a out = none
 
 abbrev pub Spawns : List ℕ → List ℕ → Frame → ℕ → List ℤ → Acted → Type 0
-Spawns s places m π out r = (P : Program) → Places s P places → Spawned P m π out r
+Spawns s places m π out r = (P : Program) → Places s P places → childBy (r .does) r out ≡ Rules.child P m π
 
 -- the rules, with what they read in place. Those that pass no values on leave the buffer alone
-abbrev pub Stmt : List ℕ → Frame → ℕ → Acted → Type 0
-Stmt s m at r =
-    byteAt s at < temporaries → m .done < 255 → (out : List ℤ) →
-    Is s m out r (Rules.stmt m (statementAt s at))
-
 abbrev pub Goto : List ℕ → List ℕ → Frame → ℕ → List ℤ → Acted → Type 0
 Goto s places m at out r =
     (P : Program) → Places s P places → Is s m out r (Rules.goto P m (byteAt s at) (argumentsAt s (past at 1)))
@@ -137,10 +129,15 @@ abbrev pub Branch : List ℕ → List ℕ → ℕ → ℕ → ℕ → ℤ → Ac
 Branch s places f b c v r =
     (P : Program) → Places s P places → (m : Frame) → m .function ≡ f → (out : List ℤ) → Is s m out r (Rules.branch P m b c (same v (pos 0)))
 
-abbrev pub If : List ℕ → List ℕ → Frame → ℕ → Acted → Type 0
-If s places m at r =
-    (P : Program) → Places s P places → (out : List ℤ) →
-    Is s m out r (Rules.if P m (expressionAt s at) (byteAt s (expressionEnd s at)) (byteAt s (past (expressionEnd s at) 1)))
+-- a statement of temporary x, or an if with the blocks b and c, whose expression came to v
+abbrev pub Valued : Bool → List ℕ → List ℕ → ℕ → ℕ → Evaluated → Acted → Type 0
+Valued true s places f x v r =
+    (m : Frame) (e : Expression) → optional (v .ok) (v .value) ≡ eval m e → x < temporaries → m .done < 255 → (out : List ℤ) →
+    Is s m out r (Rules.stmt m (record { target = x; source = e }))
+Valued false s places f x v r =
+    (P : Program) → Places s P places → (m : Frame) → m .function ≡ f → (e : Expression) → optional (v .ok) (v .value) ≡ eval m e →
+    (b c : ℕ) → (v .ok ≡ true → (b ≡ byteAt s (v .end)) × (c ≡ byteAt s (past (v .end) 1))) → (out : List ℤ) →
+    Is s m out r (Rules.if P m e b c)
 
 abbrev pub Call : List ℕ → List ℕ → Frame → ℕ → ℕ → List ℤ → Acted → Type 0
 Call s places m at b out r =
@@ -157,9 +154,10 @@ abbrev pub Spoin : List ℕ → List ℕ → Frame → ℕ → ℕ → Acted →
 Spoin s places m b c r =
     (P : Program) → Places s P places → (out : List ℤ) → Is s m out r (Rules.spoin P m b c)
 
+-- a transfer that is no if
 abbrev pub Transfer : List ℕ → List ℕ → Frame → ℕ → List ℤ → Acted → Type 0
 Transfer s places m at out r =
-    (P : Program) → Places s P places → Is s m out r (Rules.transfer P m (transferAt s at))
+    (byteAt s at ≡ 1 → ⊥) → (P : Program) → Places s P places → Is s m out r (Rules.transfer P m (transferAt s at))
 
 -- spork and spoin, by their kind
 abbrev pub Ends : List ℕ → List ℕ → Frame → ℕ → ℕ → ℕ → Acted → Type 0

@@ -1,18 +1,16 @@
 // The ten rules: what the frame at a place of the pool's words does next. The words and the table are read in place; no word is
 // touched. Values that are passed on go into a buffer of the caller's.
-use frames::Frame;
+use eval::Evaluated;
+use frames::Pool;
 use places::Place;
 ghost use mathlib.Core.Path.{_≡_};
-ghost use Prim.Native.Nat.{_+_, _<_, _≤_};
-ghost use lib.ListN.{length, take};
+ghost use Prim.Native.Nat.{_+_, _≤_, min};
+ghost use lib.ListN.{length};
 ghost use Rattle.model.specs.Numbers as No;
-ghost use Rattle.model.specs.Sets as Sets;
-ghost use Rattle.model.specs.Pool as Model;
 ghost use Rattle.model.specs.Pool.{frameWords};
-ghost use Rattle.frames.specs.Frame.{modelOf};
 ghost use Rattle.frames.specs.InPlace.{frameAt};
-ghost use Rattle.eval.specs.Code.{most};
-ghost use Rattle.rules.specs.Acts.{acting, Enters, Few, Takes, Spawns, Ending, Giving};
+ghost use Rattle.eval.specs.Code.{most, statementsEnd};
+ghost use Rattle.rules.specs.Acts.{acting, Enters, Takes, Spawns, Ending, Giving};
 ghost use Rattle.rules.specs.Acts as Rule;
 
 // The numbers of the rules, and the one of a frame to which none applies.
@@ -42,23 +40,24 @@ impl Number {
     pub const STUCK: u8 = 19;
 }
 
-// What a frame does next: it refuses; it binds a temporary to `value`; it enters `block` by a rule; it enters `block` with one
-// more call open, or with its last call closed; it calls a function and waits at `block`; it returns; it waits at a promoted spoin
-// for the block to go to. A block that is entered by a rule has its parameters at `parameters`. Values that are passed on, for the
-// parameters, to the function, to the caller, are the first `count` of the buffer.
+// What a frame does next: it refuses, by `number`; it binds temporary `number` to `value`; it enters `block` by rule `number`; it
+// enters `block` with spawn call `number` open, or with its last call closed; it calls function `number` and waits at `block`; it
+// returns; it waits at a promoted spoin to go to block `number`. A block that is entered by a rule has its parameters at
+// `parameters`. Values that are passed on, for the parameters, to the function, to the caller, are the first `count` of the buffer.
 pub enum Does {
-    Refuse(u8),
-    Bind(u8),
-    Enter(u8),
-    Open(u8),
+    Refuse,
+    Bind,
+    Enter,
+    Open,
     Close,
-    Push(u8),
+    Push,
     Pop,
-    Join(u8),
+    Join,
 }
 
 pub struct Acted {
     pub does: Does,
+    pub number: u8,
     pub block: u8,
     pub count: u8,
     pub value: i32,
@@ -66,11 +65,12 @@ pub struct Acted {
 }
 
 // The acts.
-pub fn doing(does: Does, block: u8, count: u8) -> Acted
-    ensures { λ r. ⌜ r ≡ acting does block count ⌝ }
+pub fn doing(does: Does, number: u8, block: u8, count: u8) -> Acted
+    ensures { λ r. ⌜ r ≡ acting does number block count ⌝ }
 {
     Acted {
         does,
+        number,
         block,
         count,
         value: 0,
@@ -79,26 +79,27 @@ pub fn doing(does: Does, block: u8, count: u8) -> Acted
 }
 
 pub fn refuse(n: u8) -> Acted
-    ensures { λ r. ⌜ r ≡ acting (Does.Refuse n) 0 0 ⌝ }
+    ensures { λ r. ⌜ r ≡ acting Does.Refuse n 0 0 ⌝ }
 {
-    doing(Does::Refuse(n), 0, 0)
+    doing(Does::Refuse, n, 0, 0)
 }
 
 fn stuck() -> Acted
-    ensures { λ r. ⌜ r ≡ acting (Does.Refuse No.stuck) 0 0 ⌝ }
+    ensures { λ r. ⌜ r ≡ acting Does.Refuse No.stuck 0 0 ⌝ }
 {
     refuse(Number::STUCK)
 }
 
 // Block b of function f is entered with n values, if it is there and takes as many.
-pub fn enter(s: &[u8], places: &[u16; 656], f: u8, b: u8, n: u8, does: Does) -> Acted
-    ensures { λ r. ⌜ Enters (now (s .entry)) (now (places .entry)) f b n does r ⌝ }
+pub fn enter(s: &[u8], places: &[u16; 656], f: u8, b: u8, n: u8, does: Does, number: u8) -> Acted
+    ensures { λ r. ⌜ Enters (now (s .entry)) (now (places .entry)) f b n does number r ⌝ }
 {
     match places::block(places, f as usize, b as usize) {
         Place::At(at) => {
             if eval::count(s, at) == n {
                 Acted {
                     does,
+                    number,
                     block: b,
                     count: n,
                     value: 0,
@@ -109,46 +110,6 @@ pub fn enter(s: &[u8], places: &[u16; 656], f: u8, b: u8, n: u8, does: Does) -> 
             }
         }
         Place::Nowhere => stuck(),
-    }
-}
-
-// The temporaries 0 to n - 1.
-fn below(n: u8) -> u16
-    requires { ⌜ n < 16 ⌝ }
-    ensures { λ r. ⌜ r ≡ Sets.below n ⌝ }
-{
-    (1 << n) - 1
-}
-
-// How many of n values a buffer has.
-fn few(n: u8) -> u8
-    ensures { λ r. ⌜ Few n r ⌝ }
-{
-    if n < 8 { n } else { 8 }
-}
-
-// The first frame of function g, with the first n values of a buffer.
-pub fn begin(g: u8, n: u8, v: &[i32]) -> Frame
-    requires { ⌜ length (now v) ≡ most ⌝ }
-    ensures { λ r. ⌜ modelOf r ≡ Model.begin g (take n (now (v .entry))) ⌝ }
-{
-    let count = few(n);
-    let mut values = [0i32; 16];
-    let mut i: u8 = 0;
-    while i < count {
-        let j = i as usize;
-        values[j] = v[j];
-        i += 1;
-    }
-    Frame {
-        function: g,
-        block: 0,
-        done: 0,
-        bound: below(count),
-        opened: 0,
-        promoted: 0,
-        calls: [0; 4],
-        values,
     }
 }
 
@@ -185,27 +146,9 @@ pub fn child(
             if !takes(s, places, g, n) {
                 return stuck();
             }
-            doing(Does::Push(g), 0, n)
+            doing(Does::Push, g, 0, n)
         }
         Place::Nowhere => stuck(),
-    }
-}
-
-// stmt: the statement at an offset.
-fn stmt(s: &[u8], ws: &[i32], k: usize, at: usize) -> Acted
-    requires { ⌜ k + frameWords ≤ length (now ws) ⌝ }
-    ensures { λ r. ⌜ Rule.Stmt (now (s .entry)) (frameAt (now (ws .entry)) k) at r ⌝ }
-{
-    let v = eval::eval(s, bytes::after(at, 1), ws, k);
-    if !v.ok {
-        return stuck();
-    }
-    Acted {
-        does: Does::Bind(bytes::byte(s, at)),
-        block: 0,
-        count: 0,
-        value: v.value,
-        parameters: 0,
     }
 }
 
@@ -224,7 +167,8 @@ fn goto(s: &[u8], places: &[u16; 656], ws: &[i32], k: usize, at: usize, out: &mu
         frames::function(ws, k),
         bytes::byte(s, at),
         eval::count(s, list),
-        Does::Enter(Number::GOTO),
+        Does::Enter,
+        Number::GOTO,
     )
 }
 
@@ -233,26 +177,34 @@ fn branch(s: &[u8], places: &[u16; 656], f: u8, b: u8, c: u8, v: i32) -> Acted
     ensures { λ r. ⌜ Rule.Branch (now (s .entry)) (now (places .entry)) f b c v r ⌝ }
 {
     if v == 0 {
-        return enter(s, places, f, c, 0, Does::Enter(Number::ELSE));
+        return enter(s, places, f, c, 0, Does::Enter, Number::ELSE);
     }
-    enter(s, places, f, b, 0, Does::Enter(Number::THEN))
+    enter(s, places, f, b, 0, Does::Enter, Number::THEN)
 }
 
-fn test(s: &[u8], places: &[u16; 656], ws: &[i32], k: usize, at: usize) -> Acted
-    requires { ⌜ k + frameWords ≤ length (now ws) ⌝ }
-    ensures { λ r. ⌜ Rule.If (now (s .entry)) (now (places .entry)) (frameAt (now (ws .entry)) k) at r ⌝ }
+// stmt and if: a statement of temporary x, or an if, whose expression was evaluated.
+fn valued(s: &[u8], places: &[u16; 656], f: u8, statement: bool, x: u8, v: Evaluated) -> Acted
+    ensures { λ r. ⌜ Rule.Valued statement (now (s .entry)) (now (places .entry)) f x v r ⌝ }
 {
-    let v = eval::eval(s, at, ws, k);
     if !v.ok {
         return stuck();
     }
-    let end = eval::expression_end(s, at);
+    if statement {
+        return Acted {
+            does: Does::Bind,
+            number: x,
+            block: 0,
+            count: 0,
+            value: v.value,
+            parameters: 0,
+        };
+    }
     branch(
         s,
         places,
-        frames::function(ws, k),
-        bytes::byte(s, end),
-        bytes::byte(s, bytes::after(end, 1)),
+        f,
+        bytes::byte(s, v.end),
+        bytes::byte(s, bytes::after(v.end, 1)),
         v.value,
     )
 }
@@ -280,7 +232,7 @@ fn call(
         return stuck();
     }
     match places::block(places, frames::function(ws, k) as usize, b as usize) {
-        Place::At(_) => doing(Does::Push(g), b, n),
+        Place::At(_) => doing(Does::Push, g, b, n),
         Place::Nowhere => stuck(),
     }
 }
@@ -296,7 +248,7 @@ fn give_back(s: &[u8], ws: &[i32], k: usize, at: usize, out: &mut [i32]) -> Acte
     if frames::opened(ws, k) != 0 {
         return stuck();
     }
-    doing(Does::Pop, 0, eval::count(s, at))
+    doing(Does::Pop, 0, 0, eval::count(s, at))
 }
 
 // spork: the spawn call is there, and under four are open. No argument is read.
@@ -307,8 +259,8 @@ fn spork(s: &[u8], places: &[u16; 656], ws: &[i32], k: usize, b: u8, call: u8) -
     let f = frames::function(ws, k);
     match places::spawn(places, f as usize, call as usize) {
         Place::At(_) => {
-            if frames::opened(ws, k) < 4 {
-                enter(s, places, f, b, 0, Does::Open(call))
+            if (frames::opened(ws, k) as usize) < Pool::CALLS {
+                enter(s, places, f, b, 0, Does::Open, call)
             } else {
                 stuck()
             }
@@ -327,12 +279,12 @@ fn spoin(s: &[u8], places: &[u16; 656], ws: &[i32], k: usize, b: u8, c: u8) -> A
         return stuck();
     }
     if frames::promoted(ws, k) < n {
-        return enter(s, places, frames::function(ws, k), b, 0, Does::Close);
+        return enter(s, places, frames::function(ws, k), b, 0, Does::Close, 0);
     }
-    doing(Does::Join(c), 0, 0)
+    doing(Does::Join, c, 0, 0)
 }
 
-// The transfer at an offset, by its kind.
+// The transfer at an offset, by its kind; an if is none of these.
 fn transfer(
     s: &[u8],
     places: &[u16; 656],
@@ -348,9 +300,6 @@ fn transfer(
     let first = bytes::after(at, 1);
     if kind == 0 {
         return goto(s, places, ws, k, first, out);
-    }
-    if kind == 1 {
-        return test(s, places, ws, k, first);
     }
     let second = bytes::after(first, 1);
     if kind == 2 {
@@ -389,18 +338,33 @@ fn ends(s: &[u8], places: &[u16; 656], ws: &[i32], k: usize, kind: u8, b: u8, c:
     spoin(s, places, ws, k, b, c)
 }
 
-// The statement that comes next, or the transfer: the number of the block's statements stands at an offset.
+// Where what comes next stands, behind so many of n statements: a statement, or the transfer.
+fn next_at(s: &[u8], at: usize, done: u8, n: u8) -> usize
+    ensures { λ r. ⌜ r ≡ statementsEnd (now (s .entry)) at (min done n) ⌝ }
+{
+    if done < n {
+        eval::statements_end(s, at, done)
+    } else {
+        eval::statements_end(s, at, n)
+    }
+}
+
+// The statement that comes next, or the transfer: the number of the block's statements stands at an offset. A statement and an if
+// have their expression at the same place, behind one byte.
 fn coming(s: &[u8], places: &[u16; 656], ws: &[i32], k: usize, at: usize, out: &mut [i32]) -> Acted
     requires { ⌜ (k + frameWords ≤ length (now ws)) × (length (now out) ≡ most) ⌝ }
     ensures { λ r. ⌜ Rule.Coming (now (s .entry)) (now (places .entry)) (frameAt (now (ws .entry)) k) at (now (out .exit)) r ⌝ }
 {
     let n = bytes::byte(s, at);
-    let first = bytes::after(at, 1);
     let done = frames::done(ws, k);
-    if done < n {
-        return stmt(s, ws, k, eval::statements_end(s, first, done));
+    let next = next_at(s, bytes::after(at, 1), done, n);
+    let x = bytes::byte(s, next);
+    let statement = done < n;
+    if statement || x == 1 {
+        let v = eval::eval(s, bytes::after(next, 1), ws, k);
+        return valued(s, places, frames::function(ws, k), statement, x, v);
     }
-    transfer(s, places, ws, k, eval::statements_end(s, first, n), out)
+    transfer(s, places, ws, k, next, out)
 }
 
 // What the frame at k does next.

@@ -14,7 +14,7 @@ use Rattle.model.specs.Syntax.{Program}
 use Rattle.model.specs.Pool.{Frame, Thread, Pool, mostThreads, frames, stack}
 use Rattle.model.specs.Frames.{deque}
 use Rattle.model.specs.Rules.{Result, child, promoting, spawned, promote}
-use Rattle.model.proofs.Facts.{ltb-true, ltb-false, lt-ltb, le-ltb}
+use Rattle.model.proofs.Facts.{at-below, ltb-true, ltb-false, lt-ltb, le-ltb}
 use Rattle.frames.specs.Frame.{Small}
 use Rattle.frames.specs.Held.{startOf, ThreadAt, FrameAt}
 use Rattle.frames.specs.Edits.{threadsIn, framesIn}
@@ -50,24 +50,24 @@ module _ {s : List ℕ} {ws : List ℤ} {i : ℕ} (d : Acted) (out : List ℤ) w
       subst⁻¹ (λ (x : Does). Comes ws (before a (effected (t .older) b (decisionBy x s t d out))) r ws′) q
       (f a t b (h .thread) (h .small) (subst (λ (x : Does). soundIn x s t b d) q (h .sound)))
 
-  pub applied-refuse : {n : ℕ} → d .does ≡ Refuse n → Applied s ws i d out (Refused n) ws
+  pub applied-refuse : d .does ≡ Refuse → Applied s ws i d out (Refused (d .number)) ws
   unfolding before effected
-  applied-refuse {n} q = applied-by (Refused n) ws q (λ a t b h o p. (refl, refl))
+  applied-refuse q = applied-by (Refused (d .number)) ws q (λ a t b h o p. (refl, refl))
 
   -- the newest frame, at k
   module _ {ws′ : List ℤ} {k : ℕ} (e : k ≡ newestAt ws i) where
-    pub applied-bind : {x : ℕ} → d .does ≡ Bind x → Sets ws k x (d .value) ws′ → Applied s ws i d out (Rule No.stmt) ws′
+    pub applied-bind : d .does ≡ Bind → Sets ws k (d .number) (d .value) ws′ → Applied s ws i d out (Rule No.stmt) ws′
     unfolding before effected
     applied-bind q f =
         applied-by (Rule No.stmt) ws′ q (λ a t b h o p. (refl, newest-changed h (o .0) e (λ g. f (t .newest) g (p .0) (p .1)) .held))
 
-    pub applied-enter : {rule : ℕ} → d .does ≡ Enter rule → Arrives s ws k (d .block) (d .parameters) out ws′ → Applied s ws i d out (Rule rule) ws′
+    pub applied-enter : d .does ≡ Enter → Arrives s ws k (d .block) (d .parameters) out ws′ → Applied s ws i d out (Rule (d .number)) ws′
     unfolding before effected
-    applied-enter {rule} q f =
-        applied-by (Rule rule) ws′ q
+    applied-enter q f =
+        applied-by (Rule (d .number)) ws′ q
         (λ a t b h o p. (refl, newest-changed h (o .0) e (λ g. rw (← at-head s d out (t .newest) p) (f (t .newest) g (p .each))) .held))
 
-    pub applied-open : {π : ℕ} → d .does ≡ Open π → Opens ws k π (d .block) ws′ → Applied s ws i d out (Rule No.spork) ws′
+    pub applied-open : d .does ≡ Open → Opens ws k (d .number) (d .block) ws′ → Applied s ws i d out (Rule No.spork) ws′
     unfolding before effected
     applied-open q f = applied-by (Rule No.spork) ws′ q (λ a t b h o p. (refl, newest-changed h (o .0) e (λ g. f (t .newest) g p) .held))
 
@@ -76,7 +76,7 @@ module _ {s : List ℕ} {ws : List ℤ} {i : ℕ} (d : Acted) (out : List ℤ) w
     applied-close q f = applied-by (Rule No.unpr) ws′ q (λ a t b h o p. (refl, newest-changed h (o .0) e (λ g. f (t .newest) g p) .held))
 
   module _ {ws′ : List ℤ} where
-    pub applied-push : {g : ℕ} → d .does ≡ Push g → Pushes ws i g (d .count) (d .block) out ws′ → Applied s ws i d out (Rule No.call) ws′
+    pub applied-push : d .does ≡ Push → Pushes ws i (d .number) (d .count) (d .block) out ws′ → Applied s ws i d out (Rule No.call) ws′
     unfolding before effected
     applied-push q f = applied-by (Rule No.call) ws′ q (λ a t b h o p. (refl, f a t b h (o .0) p .held))
 
@@ -94,11 +94,11 @@ module _ {s : List ℕ} {ws : List ℤ} {i : ℕ} (d : Acted) (out : List ℤ) w
             in
             (refl, x .held)
 
-    pub applied-join : {c : ℕ} → d .does ≡ Join c → Unites s ws i (d .block) (d .parameters) out ws′ → Applied s ws i d out (Rule No.prom) ws′
+    pub applied-join : d .does ≡ Join → Unites s ws i (d .block) (d .parameters) out ws′ → Applied s ws i d out (Rule No.prom) ws′
     unfolding before effected joined
-    applied-join {c} q f = applied-by (Rule No.prom) ws′ q (λ a t b h o p. go a t b h (o .0) p)
+    applied-join q f = applied-by (Rule No.prom) ws′ q (λ a t b h o p. go a t b h (o .0) p)
       where
-        go : (a : Pool) (t : Thread) (b : Pool) → ThreadAt ws i a t b → Small (t .newest) → soundIn (Join c) s t b d
+        go : (a : Pool) (t : Thread) (b : Pool) → ThreadAt ws i a t b → Small (t .newest) → soundIn Join s t b d
             → Comes ws (before a (joined (t .older) b (arrived s d out (closed (t .newest) (t .newest .promoted - 1))))) (Rule No.prom) ws′
         go a t [] h o p = absurd (omega (arith, p .2))
         go a t (u ∷ b) h o p =
@@ -157,12 +157,14 @@ module _ {ws : List ℤ} {i j k n p : ℕ} (w : k ≡ startOf i j) (c : n ≡ le
       let d : Done (frameAt ws k) = omega (arith, c, q) in
       (subst Done (frame-is h w x) d, older-done h K₁ m K₂ x)
 
-  pub finds-holder : {π : ℕ} → getElem? (frameAt ws k .calls) p ≡ some π → j < framesIn ws i → FindsOldest ws i (record { ok = true; frame = j; call = π })
+  pub finds-holder : {π : ℕ} → getElem? (frameAt ws k .calls) p ≡ some π → j < framesIn ws i → FindsOldest ws i (record { ok = true; at = k; call = π })
   finds-holder {π} y l s places P a t b h =
       let z = split (frames t) j (omega (arith, frames-counted (h .thread))) in
       let x : FrameAt t j (z .front) (z .item) (z .back) = record { is = z .is; place = z .place } in
       let u : getElem? (frameAt ws k .calls) (frameAt ws k .promoted) ≡ some π = ap (getElem? (frameAt ws k .calls)) (sym q) ∙ y in
       record {
+        number = j;
+        place = w;
         frame = z .item;
         newer = z .front;
         older = z .back;
@@ -174,7 +176,7 @@ module _ {ws : List ℤ} {i j k n p : ℕ} (w : k ≡ startOf i j) (c : n ≡ le
 pub finds-none : (ws : List ℤ) (i j : ℕ) (o : Unpromoted) → o .ok ≡ false → Passed ws i j → j ≡ framesIn ws i → FindsOldest ws i o
 finds-none ws i j o y p l s places P a t b h =
     let d : Each Done (frames t) = p s places P a t b h [] (frames t) refl (omega (arith, frames-counted (h .thread))) in
-    subst⁻¹ (λ (x : Bool). HolderOf t x o) y d
+    subst⁻¹ (λ (x : Bool). HolderOf i t x o) y d
 
 -- the frames' thread, with one more call of k promoted
 abbrev parent : Frame → List Frame → List Frame → Thread
@@ -185,12 +187,12 @@ module _ {s places : List ℕ} {ws : List ℤ} {i : ℕ} (o : Unpromoted) (f : F
   pub promotes-none : o .ok ≡ false → Promotes s places ws i (Refused No.promoted) ws
   unfolding before promote promoting
   promotes-none y P a t b h =
-      let d : Each Done (frames t) = subst (λ (x : Bool). HolderOf t x o) y (f s places P a t b h) in
+      let d : Each Done (frames t) = subst (λ (x : Bool). HolderOf i t x o) y (f s places P a t b h) in
       rw (oldest-none (t .newest) (t .older) d) (refl, refl)
 
   module _ {m : ℕ} (y : o .ok ≡ true) (c : m ≡ threadsIn ws) where
-    holder : {P : Program} {a : Pool} {t : Thread} {b : Pool} → Known s places ws i P a t b → Holder t (o .frame) (o .call)
-    holder {P} {a} {t} {b} h = subst (λ (x : Bool). HolderOf t x o) y (f s places P a t b h)
+    holder : {P : Program} {a : Pool} {t : Thread} {b : Pool} → Known s places ws i P a t b → Holder i t (o .at) (o .call)
+    holder {P} {a} {t} {b} h = subst (λ (x : Bool). HolderOf i t x o) y (f s places P a t b h)
 
     promote-is : {P : Program} {a : Pool} {t : Thread} {b : Pool} (h : Known s places ws i P a t b) (room : Bool)
         → promote P room t b
@@ -208,7 +210,7 @@ module _ {s places : List ℕ} {ws : List ℤ} {i : ℕ} (o : Unpromoted) (f : F
     promotes-full l P a t b h =
         rw (le-ltb (length (a ++ t ∷ b)) mostThreads (omega (arith, count h)), promote-is h false) (refl, refl)
 
-    module _ (out : List ℤ) (d : Acted) {k : ℕ} (l : m < mostThreads) (w : k ≡ startOf i (o .frame)) (g : Spawns s places (frameAt ws k) (o .call) out d) where
+    module _ (out : List ℤ) (d : Acted) (l : m < mostThreads) (g : Spawns s places (frameAt ws (o .at)) (o .call) out d) where
       with-room : {P : Program} {a : Pool} {t : Thread} {b : Pool} (h : Known s places ws i P a t b)
           → promote P (ltb (length (a ++ t ∷ b)) mostThreads) t b
           ≡ spawned (parent (holder h .frame) (holder h .newer) (holder h .older)) b (childBy (d .does) d out)
@@ -217,19 +219,21 @@ module _ {s places : List ℕ} {ws : List ℤ} {i : ℕ} (o : Unpromoted) (f : F
           ap (λ (room : Bool). promote P room t b) (lt-ltb (length (a ++ t ∷ b)) mostThreads (omega (arith, count h)))
           ∙ promote-is h true
           ∙ ap (spawned (parent (holder h .frame) (holder h .newer) (holder h .older)) b)
-          (ap (λ (x : Frame). child P x (o .call)) (sym (frame-is h w (holder h .at))) ∙ sym (g P (h .table) .child))
+          (ap (λ (x : Frame). child P x (o .call)) (sym (frame-is h (holder h .place) (holder h .at))) ∙ sym (g P (h .table)))
 
       pub promotes-unmet : Among (0 ∷ 1 ∷ 2 ∷ 3 ∷ 4 ∷ 6 ∷ 7 ∷ []) (d .does) → Promotes s places ws i (Refused No.stuck) ws
       unfolding before spawned
       promotes-unmet z P a t b h = rw (with-room h, no-child (d .does) d out z) (refl, refl)
 
-      pub promotes-made : {v : ℕ} (ws′ : List ℤ) → d .does ≡ Push v → Spawned ws i (o .frame) v (d .count) out ws′ → Promotes s places ws i (Rule No.promote) ws′
+      pub promotes-made : (ws′ : List ℤ) → d .does ≡ Push → Spawned ws i (o .at) (d .number) (d .count) out ws′ → Promotes s places ws i (Rule No.promote) ws′
       unfolding before spawned
-      promotes-made {v} ws′ z p P a t b h =
+      promotes-made ws′ z p P a t b h =
           let x = holder h in
           let k : Frame = x .frame in
-          let n : FrameAt (parent k (x .newer) (x .older)) (o .frame) (x .newer) (deque k (k .calls) (k .promoted + 1)) (x .older) =
+          let n : FrameAt (parent k (x .newer) (x .older)) (x .number) (x .newer) (deque k (k .calls) (k .promoted + 1)) (x .older) =
           record { is = stack-frames (x .newer) (deque k (k .calls) (k .promoted + 1)) (x .older); place = x .at .place }
           in
+          let q : Small k = small-at h (x .at) in
+          let r : k .promoted < 255 = omega (arith, at-below (k .calls) (k .promoted) (x .call), q .fits .calls) in
           rw (with-room h, z)
-          (refl, p a t b (x .newer) k (x .older) (parent k (x .newer) (x .older)) (h .thread) (x .at) (small-at h (x .at) .promoted) n .held)
+          (refl, p a t b (x .number) (x .newer) k (x .older) (parent k (x .newer) (x .older)) (h .thread) (x .place) (x .at) q r n .held)

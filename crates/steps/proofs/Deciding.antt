@@ -40,8 +40,8 @@ module _ {P : Program} {s : List ℕ} {t : Thread} {b : Pool} {out : List ℤ} (
         sound = subst⁻¹ (λ (e : Does). soundIn e s t b d) q y;
       }
 
-  refused-by : {n : ℕ} → d ≡ acting (Refuse n) 0 0 → Decides P t b (Decision.refuse n) → Decided P s t b out d
-  refused-by q x = decided-by (ap (λ (r : Acted). r .does) q) x tt
+  refused-by : {n : ℕ} → d ≡ acting Refuse n 0 0 → Decides P t b (Decision.refuse n) → Decided P s t b out d
+  refused-by q x = rw q (record { is = x; sound = tt })
 
 -- the act of a kind, as the model's
 module _ {s : List ℕ} {m : Frame} {out : List ℤ} {A : Act} (d : Acted) (h : Is s m out d A) {e : Does} (q : d .does ≡ e) where
@@ -90,20 +90,20 @@ module _ {s places : List ℕ} {ws : List ℤ} {i : ℕ} (out : List ℤ) (r : E
 -- a call
 module _ {ws : List ℤ} {i : ℕ} (d : Acted) {m : ℕ} (c : m ≡ framesIn ws i) where
   pub calls-room : m < mostFrames → Calls ws i d d
-  calls-room o s P a t b h out f g q =
+  calls-room o s P a t b h out f q =
       decided-by d q (decides-push _ _ (act-by d f q) (omega (arith, frames-counted h))) (omega (arith, frames-counted h))
 
-  pub calls-full : (r : Acted) → mostFrames ≤ m → r ≡ acting (Refuse No.frames) 0 0 → Calls ws i d r
-  calls-full r o e s P a t b h out f g q =
+  pub calls-full : (r : Acted) → mostFrames ≤ m → r ≡ acting Refuse No.frames 0 0 → Calls ws i d r
+  calls-full r o e s P a t b h out f q =
       refused-by r e (decides-full _ _ (act-by d f q) (omega (arith, frames-counted h)))
 
 -- a block that is entered with values of the buffer
-entered : {s : List ℕ} {P : Program} {f b n : ℕ} {r : Acted} → Arrives s P f b n r → (m : Frame) (out : List ℤ) → m .function ≡ f
+entered : {s : List ℕ} {P : Program} {f b n : ℕ} {d : Does} {x : ℕ} {r : Acted} → Arrives s P f b n d x r → (m : Frame) (out : List ℤ) → m .function ≡ f
     → length (take n out) ≡ n → enter P m b (take n out) ≡ some (arrived s r out m)
-entered {s} {P} {f} {b} {n} {r} A m out e l = A .is m (take n out) e l ∙ rw (A .block, A .count)
+entered {s} {P} {f} {b} {n} {d} {x} {r} A m out e l = A .is m (take n out) e l ∙ rw (A .block, A .count)
 
-parameters : {s : List ℕ} {P : Program} {f b n : ℕ} {r : Acted} → Arrives s P f b n r → Parameters s (r .parameters) (r .count)
-parameters {s} {P} {f} {b} {n} {r} A = subst⁻¹ (Parameters s (r .parameters)) (A .count) (A .parameters)
+parameters : {s : List ℕ} {P : Program} {f b n : ℕ} {e : Does} {x : ℕ} {r : Acted} → Arrives s P f b n e x r → Parameters s (r .parameters) (r .count)
+parameters {s} {P} {f} {b} {n} {e} {x} {r} A = subst⁻¹ (Parameters s (r .parameters)) (A .count) (A .parameters)
 
 -- a return
 ended-decides : {P : Program} {k : Frame} (K : List Frame) {ts : List Thread} {v̄ : List ℤ} → length K ≡ 0 → act P k ≡ Act.pop v̄
@@ -112,11 +112,11 @@ ended-decides [] {ts} {v̄} z e = decides-ended v̄ e
 ended-decides (k ∷ K) z e = absurd (omega arith)
 
 module _ {s places : List ℕ} {ws : List ℤ} {i n m : ℕ} (c : m ≡ framesIn ws i) (r : Acted) where
-  pub returns-ended : m < 2 → r ≡ acting (Refuse No.ended) 0 0 → Returns s places ws i n r
+  pub returns-ended : m < 2 → r ≡ acting Refuse No.ended 0 0 → Returns s places ws i n r
   returns-ended o q P a t b h out l f e = refused-by r q (ended-decides (t .older) (omega (arith, frames-counted (h .thread))) e)
 
   pub returns-entered : {j k f c₁ : ℕ} → 2 ≤ m → j ≡ newestAt ws i → k ≡ j - frameWords → f ≡ frameAt ws k .function → c₁ ≡ frameAt ws k .block
-      → Enters s places f c₁ n Pop r → Returns s places ws i n r
+      → Enters s places f c₁ n Pop 0 r → Returns s places ws i n r
   returns-entered {j} {k} {f} {c₁} o z p e₁ e₂ g P a t b h out l few e = go (t .older) h
     where
       go : (K : List Frame) → Known s places ws i P a (record { newest = t .newest; older = K }) b
@@ -140,17 +140,17 @@ module _ {s places : List ℕ} {ws : List ℤ} {i n m : ℕ} (c : m ≡ framesIn
           long : length (take n out) ≡ n
           long = length-take-le n out (omega (arith, few, l))
 
-          by : Entering s P f c₁ n Pop r → Decided P s (record { newest = t .newest; older = m₁ ∷ K }) b out r
-          by (Entering.arrives q A) =
-              decided-by r q
+          by : Entering s P f c₁ n Pop 0 r → Decided P s (record { newest = t .newest; older = m₁ ∷ K }) b out r
+          by (Entering.arrives A) =
+              decided-by r (A .does)
               (decides-pop (take n out) e (arrived s r out m₁) (ap (λ (x : ℕ). enter P m₁ x (take n out)) (sym at) ∙ entered A m₁ out of long))
               (parameters A, omega arith)
           by (Entering.jams q N) =
-              decided-by r q (decides-lost (take n out) e (ap (λ (x : ℕ). enter P m₁ x (take n out)) (sym at) ∙ N m₁ (take n out) of long)) tt
+              refused-by r q (decides-lost (take n out) e (ap (λ (x : ℕ). enter P m₁ x (take n out)) (sym at) ∙ N m₁ (take n out) of long))
 
 -- a join
 module _ {s places : List ℕ} {ws : List ℤ} {i f c : ℕ} (out : List ℤ) (r : Acted) {m : ℕ} (z : m ≡ threadsIn ws) where
-  pub joins-alone : m ≤ i + 1 → r ≡ acting (Refuse No.waits) 0 0 → Joins s places ws i f c out r
+  pub joins-alone : m ≤ i + 1 → r ≡ acting Refuse No.waits 0 0 → Joins s places ws i f c out r
   joins-alone o q P a t b h e x d = refused-by r q (go b h)
     where
       go : (b : Pool) → Known s places ws i P a t b → Decides P t b (Decision.refuse No.waits)
@@ -158,7 +158,7 @@ module _ {s places : List ℕ} {ws : List ℤ} {i f c : ℕ} (out : List ℤ) (r
       go (v ∷ b) u = absurd (omega (arith, threads-counted (u .thread), u .thread .place))
 
   module _ (w : Ended) (o : i + 1 < m) (g : Brings s places ws (i + 1) out w) where
-    pub joins-waits : w ≡ Runs → r ≡ acting (Refuse No.waits) 0 0 → Joins s places ws i f c out r
+    pub joins-waits : w ≡ Runs → r ≡ acting Refuse No.waits 0 0 → Joins s places ws i f c out r
     joins-waits y q P a t b h e x d = refused-by r q (go b h)
       where
         go : (b : Pool) → Known s places ws i P a t b → Decides P t b (Decision.refuse No.waits)
@@ -166,7 +166,7 @@ module _ {s places : List ℕ} {ws : List ℤ} {i f c : ℕ} (out : List ℤ) (r
         go (v ∷ b) u =
             decides-waits _ c x (sym (ap (λ (x : Ended). givenBy x out) (sym y) ∙ g P (a ++ (t ∷ [])) v b (next-known u) .is))
 
-    pub joins-entered : {n : ℕ} → w ≡ Gives n → length out ≡ most → Enters s places f c n (Join c) r → Joins s places ws i f c out r
+    pub joins-entered : {n : ℕ} → w ≡ Gives n → length out ≡ most → Enters s places f c n Join c r → Joins s places ws i f c out r
     unfolding deque
     joins-entered {n} y l k P a t b h e x d = go b h
       where
@@ -186,11 +186,11 @@ module _ {s places : List ℕ} {ws : List ℤ} {i f c : ℕ} (out : List ℤ) (r
             of : m₁ .function ≡ f
             of = sym e
 
-            by : Entering s P f c n (Join c) r → Decided P s t (v ∷ b) out r
-            by (Entering.arrives q A) =
-                decided-by r q (decides-join m₁ c x (take n out) (arrived s r out m₁) (sym (got .is)) (entered A m₁ out of long))
+            by : Entering s P f c n Join c r → Decided P s t (v ∷ b) out r
+            by (Entering.arrives A) =
+                decided-by r (A .does) (decides-join m₁ c x (take n out) (arrived s r out m₁) (sym (got .is)) (entered A m₁ out of long))
                 (parameters A, d, omega arith)
-            by (Entering.jams q N) = decided-by r q (decides-unmet m₁ c x (take n out) (sym (got .is)) (N m₁ (take n out) of long)) tt
+            by (Entering.jams q N) = refused-by r q (decides-unmet m₁ c x (take n out) (sym (got .is)) (N m₁ (take n out) of long))
 
 -- a decision by what the newest frame does
 stays : {P : Program} {s : List ℕ} {t : Thread} {b : Pool} {out : List ℤ} (d : Acted) → Among (0 ∷ 1 ∷ 2 ∷ 3 ∷ 4 ∷ []) (d .does)
@@ -198,27 +198,27 @@ stays : {P : Program} {s : List ℕ} {t : Thread} {b : Pool} {out : List ℤ} (d
 stays {P} {s} {t} {b} {out} d k h = go (d .does) refl k
   where
     go : (e : Does) → d .does ≡ e → Among (0 ∷ 1 ∷ 2 ∷ 3 ∷ 4 ∷ []) e → Decided P s t b out d
-    go (Refuse n) q k = decided-by d q (decides-refuse n (act-by d h q)) tt
-    go (Bind x) q k = decided-by d q (decides-stay No.stmt _ (act-by d h q)) (sound-by d h q)
-    go (Enter rule) q k = decided-by d q (decides-stay rule _ (act-by d h q)) (sound-by d h q)
-    go (Open π) q k = decided-by d q (decides-stay No.spork _ (act-by d h q)) (sound-by d h q)
+    go Refuse q k = decided-by d q (decides-refuse (d .number) (act-by d h q)) tt
+    go Bind q k = decided-by d q (decides-stay No.stmt _ (act-by d h q)) (sound-by d h q)
+    go Enter q k = decided-by d q (decides-stay (d .number) _ (act-by d h q)) (sound-by d h q)
+    go Open q k = decided-by d q (decides-stay No.spork _ (act-by d h q)) (sound-by d h q)
     go Close q k = decided-by d q (decides-stay No.unpr _ (act-by d h q)) (sound-by d h q)
-    go (Push g) q k = absurd (miss (0 ∷ 1 ∷ 2 ∷ 3 ∷ 4 ∷ []) 5 tt k)
+    go Push q k = absurd (miss (0 ∷ 1 ∷ 2 ∷ 3 ∷ 4 ∷ []) 5 tt k)
     go Pop q k = absurd (miss (0 ∷ 1 ∷ 2 ∷ 3 ∷ 4 ∷ []) 6 tt k)
-    go (Join c) q k = absurd (miss (0 ∷ 1 ∷ 2 ∷ 3 ∷ 4 ∷ []) 7 tt k)
+    go Join q k = absurd (miss (0 ∷ 1 ∷ 2 ∷ 3 ∷ 4 ∷ []) 7 tt k)
 
 module _ {s places : List ℕ} {ws : List ℤ} {i k : ℕ} (p : k ≡ newestAt ws i) (out : List ℤ) (d : Acted) (q : Acts s places (frameAt ws k) out d) where
   pub decides-act : Among (0 ∷ 1 ∷ 2 ∷ 3 ∷ 4 ∷ []) (d .does) → DecidesAt s places ws i out d
   decides-act e P a t b h = stays d e (acts-as h d out p q)
 
   module _ (r : Acted) where
-    pub decides-call : {g : ℕ} → d .does ≡ Push g → Calls ws i d r → DecidesAt s places ws i out r
-    decides-call {g} e f P a t b h = f s P a t b (h .thread) out (acts-as h d out p q) g e
+    pub decides-call : d .does ≡ Push → Calls ws i d r → DecidesAt s places ws i out r
+    decides-call e f P a t b h = f s P a t b (h .thread) out (acts-as h d out p q) e
 
     pub decides-return : d .does ≡ Pop → length out ≡ most → Returns s places ws i (d .count) r → DecidesAt s places ws i out r
     decides-return e l f P a t b h = let x = acts-as h d out p q in f P a t b h out l (sound-by d x e) (act-by d x e)
 
-    pub decides-joined : {c f : ℕ} (out′ : List ℤ) → d .does ≡ Join c → f ≡ frameAt ws k .function → Joins s places ws i f c out′ r
+    pub decides-joined : {f : ℕ} (out′ : List ℤ) → d .does ≡ Join → f ≡ frameAt ws k .function → Joins s places ws i f (d .number) out′ r
         → DecidesAt s places ws i out′ r
     decides-joined out′ e o f P a t b h =
         let x = acts-as h d out p q in

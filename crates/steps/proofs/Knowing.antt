@@ -2,9 +2,7 @@
 use Prim.Native.Nat.{ℕ, _+_}
 use mathlib.Core.Path.{_≡_, ap, subst, subst⁻¹, _∙_}
 use mathlib.Core.List.{List, [], _∷_, _++_, append-assoc}
-use native.Mathlib.Omega.{arith}
 use lib.IntN.{ℤ}
-use lib.ListN.{length-append}
 use Rattle.model.specs.Lists.{Each}
 use Rattle.model.specs.Syntax.{Program}
 use Rattle.model.specs.Pool.{Frame, Thread, Pool, frames}
@@ -12,13 +10,14 @@ use Rattle.model.specs.Rules.{act}
 use Rattle.model.proofs.Facts.{each-right}
 use Rattle.model.proofs.Valid.{IsThread, IsPool}
 use Rattle.frames.specs.Frame.{Small}
-use Rattle.frames.specs.Held.{startOf, Held, FrameAt}
+use Rattle.frames.specs.Held.{startOf, FrameAt}
 use Rattle.frames.specs.InPlace.{frameAt, newestAt}
 use Rattle.frames.proofs.Pools.{small-thread}
 use Rattle.frames.proofs.InPlace.{frame-at, frame-held, newest-held}
 use Rattle.rules.specs.declared.Acted.{Acted}
 use Rattle.rules.specs.Acts.{Is, Acts}
 use Rattle.steps.specs.Choice.{Known}
+use Rattle.steps.proofs.Writing.{next-thread}
 
 module _ {s places : List ℕ} {ws : List ℤ} {i : ℕ} {P : Program} {a : Pool} {t : Thread} {b : Pool} (h : Known s places ws i P a t b) where
   is-thread : IsThread P t
@@ -45,12 +44,4 @@ module _ {s places : List ℕ} {ws : List ℤ} {i : ℕ} {P : Program} {a : Pool
 pub next-known : {s places : List ℕ} {ws : List ℤ} {i : ℕ} {P : Program} {a : Pool} {t u : Thread} {b : Pool}
     → Known s places ws i P a t (u ∷ b) → Known s places ws (i + 1) P (a ++ (t ∷ [])) u b
 next-known {s} {places} {ws} {i} {P} {a} {t} {u} {b} h =
-    let e : (a ++ (t ∷ [])) ++ u ∷ b ≡ a ++ t ∷ u ∷ b = append-assoc a (t ∷ []) (u ∷ b) in
-    record {
-      table = h .table;
-      thread = record {
-        held = subst⁻¹ (Held ws) e (h .thread .held);
-        place = omega (arith, length-append a (t ∷ []), h .thread .place);
-      };
-      valid = subst⁻¹ (IsPool P) e (h .valid);
-    }
+    record { table = h .table; thread = next-thread (h .thread); valid = subst⁻¹ (IsPool P) (append-assoc a (t ∷ []) (u ∷ b)) (h .valid) }

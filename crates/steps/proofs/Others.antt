@@ -18,11 +18,11 @@ Among ks e = OneOf ks (tagOf Does.the-type e)
 
 -- no call: there is no child
 pub no-child : (e : Does) (d : Acted) (out : List ℤ) → Among (0 ∷ 1 ∷ 2 ∷ 3 ∷ 4 ∷ 6 ∷ 7 ∷ []) e → childBy e d out ≡ none
-no-child (Refuse n) d out h = refl
-no-child (Bind x) d out h = refl
-no-child (Enter rule) d out h = refl
-no-child (Open π) d out h = refl
+no-child Refuse d out h = refl
+no-child Bind d out h = refl
+no-child Enter d out h = refl
+no-child Open d out h = refl
 no-child Close d out h = refl
-no-child (Push g) d out h = absurd (miss (0 ∷ 1 ∷ 2 ∷ 3 ∷ 4 ∷ 6 ∷ 7 ∷ []) 5 tt h)
+no-child Push d out h = absurd (miss (0 ∷ 1 ∷ 2 ∷ 3 ∷ 4 ∷ 6 ∷ 7 ∷ []) 5 tt h)
 no-child Pop d out h = refl
-no-child (Join c) d out h = refl
+no-child Join d out h = refl

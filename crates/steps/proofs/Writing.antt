@@ -1,21 +1,21 @@
 -- What each sequence of writes leaves.
 use Prim.Native.Nat.{ℕ, _+_, _-_, _≤_, _<_}
 use mathlib.Core.Path.{_≡_, refl, sym, ap, subst, subst⁻¹, _∙_}
-use mathlib.Core.List.{List, [], _∷_, _++_}
+use mathlib.Core.List.{List, [], _∷_, _++_, append-assoc}
 use native.Mathlib.Omega.{arith}
 use lib.IntN.{ℤ}
-use lib.ListN.{length, take}
+use lib.ListN.{length, take, length-append}
 use Rattle.model.specs.Pool.{Frame, Thread, Pool, mostCalls, mostFrames, frameWords, begin}
 use Rattle.model.specs.Frames.{goTo, bind, deque}
-use Rattle.frames.specs.declared.Frame as Code
-use Rattle.frames.specs.Frame.{modelOf, Small}
-use Rattle.frames.specs.Held.{startOf, ThreadAt, FrameAt}
-use Rattle.frames.specs.Edits.{framesIn, threadsIn, lone, Pushed, Popped, Promoted, Added, Removed}
-use Rattle.frames.specs.InPlace.{frameAt, newestAt, FrameHeld, Became, Jumped, Advanced, Opened, Closed}
+use Rattle.frames.specs.Frame.{Small}
+use Rattle.frames.specs.Held.{startOf, Held, ThreadAt, FrameAt}
+use Rattle.frames.specs.Edits.{framesIn, threadsIn, Pushed, Popped, Added, Removed}
+use Rattle.frames.specs.InPlace.{frameAt, newestAt, FrameHeld, Became, Jumped, Advanced, Opened, Closed, Promoted}
 use Rattle.frames.proofs.Steps.{frames-counted, threads-counted}
 use Rattle.frames.proofs.Edits.{frame-replaced}
-use Rattle.frames.proofs.InPlace.{frame-at, became-held, became-then, newest-start, newest-held, below-held, newest-became}
-use Rattle.eval.specs.Given.{Binds, BindsAll}
+use Rattle.frames.proofs.Stores.{small-empty}
+use Rattle.frames.proofs.InPlace.{frame-at, became-held, became-then, newest-start, frame-held, newest-held, newest-became}
+use Rattle.eval.specs.Given.{Binds, BindsAll, Begins}
 use Rattle.rules.specs.Acts.{closed}
 use Rattle.steps.specs.Writes.{Sets, Arrives, Opens, Closes, Shuts, Pushes, Pops, Unites, Spawned}
 
@@ -66,25 +66,40 @@ newest-changed {ws} {ws₁} {i} {k} {a} {b} {t} {m} h s e f =
     newest-became h
     (subst (λ (p : ℕ). Became ws p m ws₁) e (f (subst⁻¹ (λ (p : ℕ). FrameHeld ws p (t .newest)) e (newest-held h s))))
 
--- the frame below the newest has become another
-below-changed : {ws ws₁ : List ℤ} {i k : ℕ} {a b : Pool} {l m m₁ : Frame} {K : List Frame} → ThreadAt ws i a (record { newest = l; older = m ∷ K }) b
-    → Small m → k ≡ startOf i (framesIn ws i - 2) → (FrameHeld ws k m → Became ws k m₁ ws₁)
-    → ThreadAt ws₁ i a (record { newest = l; older = m₁ ∷ K }) b
-below-changed {ws} {ws₁} {i} {k} {a} {b} {l} {m} {m₁} {K} h s e f =
-    let c : Became ws k m₁ ws₁ = f (subst⁻¹ (λ (p : ℕ). FrameHeld ws p m) e (below-held h s)) in
-    let x : FrameAt (record { newest = l; older = m ∷ K }) (length K) (l ∷ []) m K = record { is = refl; place = refl } in
-    let y : FrameAt (record { newest = l; older = m₁ ∷ K }) (length K) (l ∷ []) m₁ K = record { is = refl; place = refl } in
-    subst⁻¹ (λ (w : List ℤ). ThreadAt w i a (record { newest = l; older = m₁ ∷ K }) b) (c .words)
-    (frame-replaced h x y (c .small .fits) k (omega (arith, e, frames-counted h)))
+-- a frame of it has become another
+frame-changed : {ws ws₁ : List ℤ} {i j k : ℕ} {a b : Pool} {t t₁ : Thread} {K₁ K₂ : List Frame} {m m₁ : Frame} → ThreadAt ws i a t b → FrameAt t j K₁ m K₂
+    → FrameAt t₁ j K₁ m₁ K₂ → Small m → k ≡ startOf i j → (FrameHeld ws k m → Became ws k m₁ ws₁) → ThreadAt ws₁ i a t₁ b
+frame-changed {ws} {ws₁} {i} {j} {k} {a} {b} {t} {t₁} {K₁} {K₂} {m} {m₁} h x y s e f =
+    let c : Became ws k m₁ ws₁ = f (subst⁻¹ (λ (p : ℕ). FrameHeld ws p m) e (frame-held h x s)) in
+    subst⁻¹ (λ (w : List ℤ). ThreadAt w i a t₁ b) (c .words) (frame-replaced h x y (c .small .fits) k e)
+
+-- the thread directly behind, at its own place, and back
+module _ {ws : List ℤ} {i : ℕ} {a b : Pool} {t u : Thread} where
+  pub next-thread : ThreadAt ws i a t (u ∷ b) → ThreadAt ws (i + 1) (a ++ (t ∷ [])) u b
+  next-thread h =
+      record {
+        held = subst⁻¹ (Held ws) (append-assoc a (t ∷ []) (u ∷ b)) (h .held);
+        place = omega (arith, length-append a (t ∷ []), h .place);
+      }
+
+  last-thread : ThreadAt ws (i + 1) (a ++ (t ∷ [])) u b → ThreadAt ws i a t (u ∷ b)
+  last-thread h =
+      record {
+        held = subst (Held ws) (append-assoc a (t ∷ []) (u ∷ b)) (h .held);
+        place = omega (arith, length-append a (t ∷ []), h .place);
+      }
 
 module _ {ws : List ℤ} {i : ℕ} where
-  pub was-pushed : {ws₁ ws₂ : List ℤ} {k : ℕ} (g n c : ℕ) (out : List ℤ) (f : Code.Frame) → k ≡ newestAt ws i → modelOf f ≡ begin g (take n out)
-      → Pushed ws i (modelOf f) ws₁ → Jumped ws₁ k c 0 ws₂ → Pushes ws i g n c out ws₂
-  was-pushed {ws₁} {ws₂} {k} g n c out f e q p j a t b h s few =
-      let x : ThreadAt ws₁ i a (record { newest = begin g (take n out); older = t .newest ∷ t .older }) b =
-      subst (λ (m : Frame). ThreadAt ws₁ i a (record { newest = m; older = t .newest ∷ t .older }) b) q (p a t b h)
+  pub was-pushed : {ws₁ ws₂ ws₃ : List ℤ} {k l : ℕ} (g n c : ℕ) (out : List ℤ) → k ≡ newestAt ws i → l ≡ k + frameWords → Pushed ws i (begin 0 []) ws₁
+      → Begins ws₁ l g n out ws₂ → Jumped ws₂ k c 0 ws₃ → Pushes ws i g n c out ws₃
+  was-pushed g n c out e q p f j a t b h s few =
+      let x = p a t b h in
+      let y = newest-changed x small-empty (omega (arith, e, q, newest-start h, newest-start x)) f in
+      let l : Frame = begin g (take n out) in
+      let u : FrameAt (record { newest = l; older = t .newest ∷ t .older }) (length (t .older)) (l ∷ []) (t .newest) (t .older) =
+      record { is = refl; place = refl }
       in
-      below-changed x s (omega (arith, e, frames-counted h, frames-counted x)) (λ o. j (t .newest) o)
+      frame-changed y u (record { is = refl; place = refl }) s (e ∙ newest-start h) (λ o. j (t .newest) o)
 
   pub not-pushed : {m : ℕ} (g n c : ℕ) (out : List ℤ) → m ≡ framesIn ws i → mostFrames ≤ m → Pushes ws i g n c out ws
   not-pushed g n c out e o a t b h s few = absurd (omega (arith, e, frames-counted h))
@@ -107,7 +122,9 @@ module _ {ws : List ℤ} {i : ℕ} where
   pub not-united : {m : ℕ} (s : List ℕ) (c p : ℕ) (out : List ℤ) → m ≡ threadsIn ws → m ≤ i + 1 → Unites s ws i c p out ws
   not-united s c p out e o a t u b h z n v r = absurd (omega (arith, e, threads-counted h, h .place))
 
-  pub was-spawned : {ws₁ ws₂ : List ℤ} {j : ℕ} (g n : ℕ) (out : List ℤ) (f : Code.Frame) → modelOf f ≡ begin g (take n out) → Added ws i (modelOf f) ws₁
-      → Promoted ws₁ i j ws₂ → Spawned ws i j g n out ws₂
-  was-spawned {ws₁} {ws₂} g n out f q p r a t b K₁ k K₂ t′ h x s y =
-      r a t (lone (begin g (take n out)) ∷ b) K₁ k K₂ t′ (subst (λ (m : Frame). ThreadAt ws₁ i a t (lone m ∷ b)) q (p a t b h)) x s y
+  pub was-spawned : {ws₁ ws₂ ws₃ : List ℤ} {k l : ℕ} (g n : ℕ) (out : List ℤ) → Added ws i (begin 0 []) ws₁ → l ≡ startOf (i + 1) 0
+      → Begins ws₁ l g n out ws₂ → Promoted ws₂ k ws₃ → Spawned ws i k g n out ws₃
+  was-spawned g n out p e f r a t b j K₁ m K₂ t′ h w x s q y =
+      let u = next-thread (p a t b h) in
+      let v = last-thread (newest-changed u small-empty (e ∙ sym (newest-start u)) f) in
+      frame-changed v x y s w (λ o. r m o q)

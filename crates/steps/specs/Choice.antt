@@ -18,7 +18,7 @@ use Rattle.model.specs.Calls.{Called, made}
 use Rattle.model.proofs.Valid.{IsPool}
 use Rattle.places.specs.Places.{Places}
 use Rattle.frames.specs.Frame.{Small}
-use Rattle.frames.specs.Held.{Held, ThreadAt, FrameAt}
+use Rattle.frames.specs.Held.{startOf, Held, ThreadAt, FrameAt}
 use Rattle.eval.specs.declared.Looked.{Looked}
 use Rattle.eval.specs.Given.{lookedOf}
 use Rattle.eval.specs.Code.{most}
@@ -44,14 +44,14 @@ callerOf t = callerIn (t .newest) (t .older)
 
 -- the frame that goes on after a return and after a join
 abbrev pub goesOnAs : Does → Thread → Frame
-goesOnAs (Refuse n) t = t .newest
-goesOnAs (Bind x) t = t .newest
-goesOnAs (Enter rule) t = t .newest
-goesOnAs (Open π) t = t .newest
+goesOnAs Refuse t = t .newest
+goesOnAs Bind t = t .newest
+goesOnAs Enter t = t .newest
+goesOnAs Open t = t .newest
 goesOnAs Close t = t .newest
-goesOnAs (Push g) t = t .newest
+goesOnAs Push t = t .newest
 goesOnAs Pop t = callerOf t
-goesOnAs (Join c) t = closed (t .newest) (t .newest .promoted - 1)
+goesOnAs Join t = closed (t .newest) (t .newest .promoted - 1)
 
 -- what an act comes to, where k goes on after a return and after a join
 abbrev pub decided : Frame → Act → Decision
@@ -94,14 +94,14 @@ Brings s places ws i out r =
 
 -- what writing a decision of thread t rests on
 abbrev pub soundIn : Does → List ℕ → Thread → Pool → Acted → Type 0
-soundIn (Refuse n) s t b d = Unit {0}
-soundIn (Bind x) s t b d = soundBy (Bind x) s (t .newest) d
-soundIn (Enter rule) s t b d = soundBy (Enter rule) s (t .newest) d
-soundIn (Open π) s t b d = soundBy (Open π) s (t .newest) d
+soundIn Refuse s t b d = Unit {0}
+soundIn Bind s t b d = soundBy Bind s (t .newest) d
+soundIn Enter s t b d = soundBy Enter s (t .newest) d
+soundIn Open s t b d = soundBy Open s (t .newest) d
 soundIn Close s t b d = soundBy Close s (t .newest) d
-soundIn (Push g) s t b d = length (frames t) < mostFrames
+soundIn Push s t b d = length (frames t) < mostFrames
 soundIn Pop s t b d = Parameters s (d .parameters) (d .count) × (0 < length (t .older))
-soundIn (Join c) s t b d = Parameters s (d .parameters) (d .count) × soundBy (Join c) s (t .newest) d × (0 < length b)
+soundIn Join s t b d = Parameters s (d .parameters) (d .count) × soundBy Join s (t .newest) d × (0 < length b)
 
 -- the act d is decided for thread t
 pub record Decided (P : Program) (s : List ℕ) (t : Thread) (b : Pool) (out : List ℤ) (d : Acted) : Type 0 where
@@ -112,7 +112,7 @@ pub record Decided (P : Program) (s : List ℕ) (t : Thread) (b : Pool) (out : L
 abbrev pub Calls : List ℤ → ℕ → Acted → Acted → Type 0
 Calls ws i d r =
     (s : List ℕ) (P : Program) (a : Pool) (t : Thread) (b : Pool) → ThreadAt ws i a t b → (out : List ℤ) → Is s (t .newest) out d (act P (t .newest))
-    → (g : ℕ) → d .does ≡ Push g → Decided P s t b out r
+    → d .does ≡ Push → Decided P s t b out r
 
 abbrev pub Returns : List ℕ → List ℕ → List ℤ → ℕ → ℕ → Acted → Type 0
 Returns s places ws i n r =
@@ -122,7 +122,7 @@ Returns s places ws i n r =
 abbrev pub Joins : List ℕ → List ℕ → List ℤ → ℕ → ℕ → ℕ → List ℤ → Acted → Type 0
 Joins s places ws i f c out r =
     (P : Program) (a : Pool) (t : Thread) (b : Pool) → Known s places ws i P a t b → f ≡ t .newest .function
-    → act P (t .newest) ≡ Act.join (closed (t .newest) (t .newest .promoted - 1)) c → soundBy (Join c) s (t .newest) r → Decided P s t b out r
+    → act P (t .newest) ≡ Act.join (closed (t .newest) (t .newest .promoted - 1)) c → soundBy Join s (t .newest) r → Decided P s t b out r
 
 abbrev pub DecidesAt : List ℕ → List ℕ → List ℤ → ℕ → List ℤ → Acted → Type 0
 DecidesAt s places ws i out r =
@@ -176,22 +176,24 @@ Steps s places ws i r ws′ =
 abbrev pub Done : Frame → Type 0
 Done k = length (k .calls) ≤ k .promoted
 
--- the oldest frame that holds an unpromoted call, and the call
-pub record Holder (t : Thread) (j π : ℕ) : Type 0 where
+-- the oldest frame of thread i that holds an unpromoted call, at the place k, and the call
+pub record Holder (i : ℕ) (t : Thread) (k π : ℕ) : Type 0 where
+  pub number : ℕ
   pub frame : Frame
   pub newer : List Frame
   pub older : List Frame
-  pub at : FrameAt t j newer frame older
+  pub place : k ≡ startOf i number
+  pub at : FrameAt t number newer frame older
   pub done : Each Done older
   pub call : getElem? (frame .calls) (frame .promoted) ≡ some π
 
-abbrev pub HolderOf : Thread → Bool → Unpromoted → Type 0
-HolderOf t true r = Holder t (r .frame) (r .call)
-HolderOf t false r = Each Done (frames t)
+abbrev pub HolderOf : ℕ → Thread → Bool → Unpromoted → Type 0
+HolderOf i t true r = Holder i t (r .at) (r .call)
+HolderOf i t false r = Each Done (frames t)
 
 abbrev pub FindsOldest : List ℤ → ℕ → Unpromoted → Type 0
 FindsOldest ws i r =
-    (s places : List ℕ) (P : Program) (a : Pool) (t : Thread) (b : Pool) → Known s places ws i P a t b → HolderOf t (r .ok) r
+    (s places : List ℕ) (P : Program) (a : Pool) (t : Thread) (b : Pool) → Known s places ws i P a t b → HolderOf i t (r .ok) r
 
 abbrev pub Promotes : List ℕ → List ℕ → List ℤ → ℕ → Made → List ℤ → Type 0
 Promotes s places ws i r ws′ =

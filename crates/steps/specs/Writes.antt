@@ -1,5 +1,6 @@
 -- What the writes of a step leave: of the frame at a place, and of a thread, for every one that the words hold.
 use Prim.Native.Nat.{ℕ, _+_, _-_, _≤_, _<_}
+use mathlib.Core.Path.{_≡_}
 use mathlib.Core.List.{List, [], _∷_, _++_}
 use lib.IntN.{ℤ}
 use lib.ListN.{length, take}
@@ -7,7 +8,7 @@ use Rattle.model.specs.Lists.{Each}
 use Rattle.model.specs.Pool.{Frame, Thread, Pool, temporaries, mostCalls, mostFrames, frames, begin}
 use Rattle.model.specs.Frames.{goTo, bind, bindAll, deque}
 use Rattle.frames.specs.Frame.{Small}
-use Rattle.frames.specs.Held.{ThreadAt, FrameAt}
+use Rattle.frames.specs.Held.{startOf, ThreadAt, FrameAt}
 use Rattle.frames.specs.Edits.{lone}
 use Rattle.frames.specs.InPlace.{FrameHeld, Became}
 use Rattle.eval.specs.Code.{countAt, argumentsAt}
@@ -56,9 +57,9 @@ Unites s ws i c p out ws′ =
     (a : Pool) (t u : Thread) (b : Pool) → ThreadAt ws i a t (u ∷ b) → Small (t .newest) → 0 < length (t .newest .calls) → 0 < t .newest .promoted
     → Temporaries s p → ThreadAt ws′ i a (record { newest = atHead s c p out (closed (t .newest) (t .newest .promoted - 1)); older = t .older }) b
 
--- a thread of function g directly behind thread i, and one more call of its frame j promoted
+-- a thread of function g directly behind thread i, and one more call of its frame at a place promoted
 abbrev pub Spawned : List ℤ → ℕ → ℕ → ℕ → ℕ → List ℤ → List ℤ → Type 0
-Spawned ws i j g n out ws′ =
-    (a : Pool) (t : Thread) (b : Pool) (K₁ : List Frame) (k : Frame) (K₂ : List Frame) (t′ : Thread) → ThreadAt ws i a t b → FrameAt t j K₁ k K₂
-    → k .promoted < 256 → FrameAt t′ j K₁ (deque k (k .calls) (k .promoted + 1)) K₂
+Spawned ws i at g n out ws′ =
+    (a : Pool) (t : Thread) (b : Pool) (j : ℕ) (K₁ : List Frame) (k : Frame) (K₂ : List Frame) (t′ : Thread) → ThreadAt ws i a t b
+    → at ≡ startOf i j → FrameAt t j K₁ k K₂ → Small k → k .promoted < 255 → FrameAt t′ j K₁ (deque k (k .calls) (k .promoted + 1)) K₂
     → ThreadAt ws′ i a t′ (lone (begin g (take n out)) ∷ b)

@@ -10,7 +10,7 @@ use rules::Number;
 ghost use mathlib.Core.Path.{_≡_};
 ghost use Prim.Native.Nat.{_+_, _<_, _≤_};
 ghost use lib.ListN.{length};
-ghost use Rattle.model.specs.Pool.{frameWords, mostFrames, mostThreads, poolWords};
+ghost use Rattle.model.specs.Pool.{frameWords, mostThreads, poolWords};
 ghost use Rattle.frames.specs.Edits.{threadsIn};
 ghost use Rattle.frames.specs.InPlace.{newestAt};
 ghost use Rattle.eval.specs.Code.{most};
@@ -23,10 +23,10 @@ pub enum Made {
     Refused(u8),
 }
 
-// The oldest frame with an unpromoted call, by number, and the call; or none.
+// The oldest frame with an unpromoted call, by its place, and the call; or none.
 pub struct Unpromoted {
     pub ok: bool,
-    pub frame: usize,
+    pub at: usize,
     pub call: u8,
 }
 
@@ -53,7 +53,7 @@ pub fn ended(s: &[u8], places: &[u16; 656], ws: &[i32], i: usize) -> Looked
     requires { ⌜ (length (now ws) ≡ poolWords) × (i < mostThreads) ⌝ }
     ensures { λ r. ⌜ Ends (now (s .entry)) (now (places .entry)) (now (ws .entry)) i r ⌝ }
 {
-    let mut out = [0i32; 8];
+    let mut out = [0i32; Values::MOST];
     let r = returned(s, places, ws, i, &mut out);
     match r {
         Ended::Gives(n) => Looked {
@@ -91,7 +91,7 @@ fn returning(s: &[u8], places: &[u16; 656], ws: &[i32], i: usize, k: usize, n: u
     let l = k - Pool::FRAME_WORDS;
     let f = frames::function(ws, l);
     let b = frames::block(ws, l);
-    rules::enter(s, places, f, b, n, Does::Pop)
+    rules::enter(s, places, f, b, n, Does::Pop, 0)
 }
 
 // A promoted spoin, with block c behind it: the newest child stands directly behind its parent. 17 where it is not ended.
@@ -113,7 +113,7 @@ fn joining(
     }
     let r = returned(s, places, ws, i + 1, out);
     match r {
-        Ended::Gives(n) => rules::enter(s, places, f, c, n, Does::Join(c)),
+        Ended::Gives(n) => rules::enter(s, places, f, c, n, Does::Join, c),
         Ended::Runs => rules::refuse(17),
     }
 }
@@ -126,9 +126,9 @@ fn decide(s: &[u8], places: &[u16; 656], ws: &[i32], i: usize, k: usize, out: &m
     let a = rules::act(s, places, ws, k, out);
     let does = a.does;
     match does {
-        Does::Push(_) => calling(ws, i, a),
+        Does::Push => calling(ws, i, a),
         Does::Pop => returning(s, places, ws, i, k, a.count),
-        Does::Join(c) => joining(s, places, ws, i, frames::function(ws, k), c, out),
+        Does::Join => joining(s, places, ws, i, frames::function(ws, k), a.number, out),
         _ => a,
     }
 }
@@ -157,7 +157,7 @@ fn open_one(ws: &mut [i32], k: usize, call: u8, b: u8)
     ensures { λ _. ⌜ Opens (now (ws .entry)) k call b (now (ws .exit)) ⌝ }
 {
     let n = frames::opened(ws, k);
-    if n < 4 {
+    if (n as usize) < Pool::CALLS {
         frames::open_call(ws, k, n, call);
         frames::jump(ws, k, b, 0);
     }
@@ -192,7 +192,8 @@ fn push(ws: &mut [i32], i: usize, k: usize, g: u8, n: u8, b: u8, out: &[i32])
     ensures { λ _. ⌜ Pushes (now (ws .entry)) i g n b (now (out .entry)) (now (ws .exit)) ⌝ }
 {
     if frames::frame_count(ws, i) < Pool::FRAMES {
-        frames::push_frame(ws, i, k, rules::begin(g, n, out));
+        frames::push_frame(ws, i);
+        eval::begin(ws, k + Pool::FRAME_WORDS, g, n, out);
         frames::jump(ws, k, b, 0);
     }
 }
@@ -227,32 +228,32 @@ fn apply(s: &[u8], ws: &mut [i32], i: usize, k: usize, d: Acted, out: &[i32]) ->
 {
     let does = d.does;
     match does {
-        Does::Refuse(n) => Made::Refused(n),
-        Does::Bind(x) => {
-            set(ws, k, x, d.value);
+        Does::Refuse => Made::Refused(d.number),
+        Does::Bind => {
+            set(ws, k, d.number, d.value);
             Made::Rule(Number::STMT)
         }
-        Does::Enter(rule) => {
+        Does::Enter => {
             arrive(s, ws, k, d.block, d.parameters, out);
-            Made::Rule(rule)
+            Made::Rule(d.number)
         }
-        Does::Open(call) => {
-            open_one(ws, k, call, d.block);
+        Does::Open => {
+            open_one(ws, k, d.number, d.block);
             Made::Rule(Number::SPORK)
         }
         Does::Close => {
             shut(ws, k, d.block);
             Made::Rule(Number::UNPR)
         }
-        Does::Push(g) => {
-            push(ws, i, k, g, d.count, d.block, out);
+        Does::Push => {
+            push(ws, i, k, d.number, d.count, d.block, out);
             Made::Rule(Number::CALL)
         }
         Does::Pop => {
             pop(s, ws, i, k, d.block, d.parameters, out);
             Made::Rule(Number::RETURN)
         }
-        Does::Join(_) => {
+        Does::Join => {
             unite(s, ws, i, k, d.block, d.parameters, out);
             Made::Rule(Number::PROM)
         }
@@ -263,7 +264,7 @@ fn step(s: &[u8], places: &[u16; 656], ws: &mut [i32], i: usize) -> Made
     requires { ⌜ (length (now ws) ≡ poolWords) × (i < mostThreads) ⌝ }
     ensures { λ r. ⌜ Steps (now (s .entry)) (now (places .entry)) (now (ws .entry)) i r (now (ws .exit)) ⌝ }
 {
-    let mut out = [0i32; 8];
+    let mut out = [0i32; Values::MOST];
     let k = frames::newest_start(ws, i);
     let d = decide(s, places, ws, i, k, &mut out);
     apply(s, ws, i, k, d, &out)
@@ -272,7 +273,7 @@ fn step(s: &[u8], places: &[u16; 656], ws: &mut [i32], i: usize) -> Made
 // The oldest unpromoted call of thread i over all its frames.
 fn oldest(ws: &[i32], i: usize) -> Unpromoted
     requires { ⌜ (length (now ws) ≡ poolWords) × (i < mostThreads) ⌝ }
-    ensures within { λ r. ⌜ r .frame < mostFrames ⌝ }
+    ensures within { λ r. ⌜ r .at + frameWords ≤ poolWords ⌝ }
     ensures finds { λ r. ⌜ FindsOldest (now (ws .entry)) i r ⌝ }
 {
     let newest = frames::frame_count(ws, i) - 1;
@@ -283,7 +284,7 @@ fn oldest(ws: &[i32], i: usize) -> Unpromoted
         if p < frames::opened(ws, k) {
             return Unpromoted {
                 ok: true,
-                frame: j,
+                at: k,
                 call: frames::call(ws, k, p),
             };
         }
@@ -291,18 +292,19 @@ fn oldest(ws: &[i32], i: usize) -> Unpromoted
     }
     Unpromoted {
         ok: false,
-        frame: 0,
+        at: 0,
         call: 0,
     }
 }
 
-// A thread of function g, with n values of the buffer, stands directly behind thread i, and a call of frame j is promoted.
-fn spawn(ws: &mut [i32], i: usize, j: usize, g: u8, n: u8, out: &[i32])
-    requires { ⌜ (length (now ws) ≡ poolWords) × (i < threadsIn (now ws)) × (threadsIn (now ws) < mostThreads) × (j < mostFrames) × (length (now out) ≡ most) ⌝ }
-    ensures { λ _. ⌜ Spawned (now (ws .entry)) i j g n (now (out .entry)) (now (ws .exit)) ⌝ }
+// A thread of function g, with n values of the buffer, stands directly behind thread i, and a call of its frame at k is promoted.
+fn spawn(ws: &mut [i32], i: usize, k: usize, g: u8, n: u8, out: &[i32])
+    requires { ⌜ (length (now ws) ≡ poolWords) × (i < threadsIn (now ws)) × (threadsIn (now ws) < mostThreads) × (k + frameWords ≤ poolWords) × (length (now out) ≡ most) ⌝ }
+    ensures { λ _. ⌜ Spawned (now (ws .entry)) i k g n (now (out .entry)) (now (ws .exit)) ⌝ }
 {
-    frames::add_thread(ws, i, rules::begin(g, n, out));
-    frames::promote_call(ws, i, j);
+    frames::add_thread(ws, i);
+    eval::begin(ws, frames::thread_start(i + 1) + 1, g, n, out);
+    frames::promote_call(ws, k);
 }
 
 // The child stands directly behind its parent. 20 where nothing is unpromoted, 21 where all threads are in use, then 19.
@@ -317,13 +319,12 @@ fn promote(s: &[u8], places: &[u16; 656], ws: &mut [i32], i: usize) -> Made
     if Pool::THREADS <= frames::thread_count(ws) {
         return Made::Refused(21);
     }
-    let j = o.frame;
-    let mut out = [0i32; 8];
-    let a = rules::child(s, places, ws, frames::frame_start(i, j), o.call, &mut out);
+    let mut out = [0i32; Values::MOST];
+    let a = rules::child(s, places, ws, o.at, o.call, &mut out);
     let does = a.does;
     match does {
-        Does::Push(g) => {
-            spawn(ws, i, j, g, a.count, &out);
+        Does::Push => {
+            spawn(ws, i, o.at, a.number, a.count, &out);
             Made::Rule(Number::PROMOTE)
         }
         _ => Made::Refused(Number::STUCK),

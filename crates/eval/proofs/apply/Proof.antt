@@ -1,6 +1,6 @@
 -- `eval::apply` meets its contract.
 use Rattle.eval.proofs.Leaves.{plus-of, applied-atom, applied-minus, applied-plus, applied-less, less-true, less-false}
-use Rattle.model.specs.Values.{minus, plus}
+use Rattle.model.specs.Values.{minus}
 use borrow.Author.Needs.{sfits-of, needs}
 use mir.Facts.{toZ-ofZ}
 use mathlib.Core.Path.{_∙_, ap, sym}

@@ -1,5 +1,5 @@
 -- `eval::count` meets its contract.
-use Rattle.eval.proofs.Leaves.{count-few, count-most}
+use Rattle.eval.proofs.Leaves.{count-is}
 use borrow.Author.Needs.{needs}
 use Rattle.eval.proofs.count.Statement.{statement}
 use Rattle.eval.proofs.count.Tie as tie
@@ -9,5 +9,5 @@ count-spec =
     tie.close
     (tie.spec
     (λ c κs. search needs)
-    (λ c. count-few _ _ (c .before .byte .ensures) (c .if1 .taken))
-    (λ c. count-most _ _ (c .before .byte .ensures) (c .if1 .left)))
+    (λ c κs. search needs)
+    (λ c. count-is _ _ (c .before .byte .ensures) (c .few .ensures)))

@@ -11,6 +11,7 @@ eval-spec =
     (λ c κs. search needs)
     (λ c κs. search needs)
     (λ c κs. search needs)
+    (λ c κs. search needs)
     (λ c. search (eval-unbound))
     (λ c. search needs)
     (λ c κs. search needs)

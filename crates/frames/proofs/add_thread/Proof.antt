@@ -19,12 +19,13 @@ add-thread-spec =
     (λ c. search needs)
     (λ c κs. search needs)
     (λ c κs. search needs)
+    (λ c κs. search needs)
     (λ c. search needs)
     (λ c.
-    let s = c .before .before .before .before .before .before .before .before .before .before .before .before .before in
-    was-added (now (s .args .ws)) (s .args .thread) _ _ _ _ _ _ (s .args .f) (s .pre .2)
-    (c .before .before .before .before .before .before .before .before .before .before .before .thread-count .ensures)
-    (c .before .before .before .before .before .before .before .before .before .before .thread-start .ensures)
-    (c .before .before .before .before .before .before .before .before .before .thread-start2 .ensures)
-    (c .before .before .before .before .before .before .before .set-count .ensures)
-    (c .before .before .before .before .move-run .ensures) (c .before .write-thread .ensures)))
+    let s = c .before .before .before .before .before .before .before .before .before .before .before .before .before .before in
+    was-added (now (s .args .ws)) (s .args .thread) _ _ _ _ _ _ (c .before .before .empty-frame .result) (s .pre .2)
+    (c .before .before .before .before .before .before .before .before .before .before .before .before .thread-count .ensures)
+    (c .before .before .before .before .before .before .before .before .before .before .before .thread-start .ensures)
+    (c .before .before .before .before .before .before .before .before .before .before .thread-start2 .ensures)
+    (c .before .before .before .before .before .before .before .before .set-count .ensures)
+    (c .before .before .before .before .before .move-run .ensures) (c .before .write-thread .ensures) (c .before .before .empty-frame .ensures)))

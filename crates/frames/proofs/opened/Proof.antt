@@ -11,5 +11,7 @@ opened-spec =
     (tie.spec
     (λ c. search needs)
     (λ c κs. search needs)
+    (λ c. search needs)
+    (λ c. search needs)
     (λ c. let a = c .before .before .args in calls-few (now (a .ws)) (a .at) (c .before .byte-at .ensures) (c .if1 .taken))
     (λ c. let a = c .before .before .args in calls-all (now (a .ws)) (a .at) (c .before .byte-at .ensures) (c .if1 .left)))

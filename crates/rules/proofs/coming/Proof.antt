@@ -1,5 +1,6 @@
 -- `rules::coming` meets its contract.
-use Rattle.rules.proofs.Steps.{coming-stmt, coming-transfer}
+use mathlib.Core.Logic.{⊎-elim}
+use Rattle.rules.proofs.Steps.{coming-stmt, coming-if, coming-transfer}
 use native.Mathlib.Omega.{arith}
 use denote.Ref.{now}
 use Rattle.frames.specs.InPlace.{frameAt}
@@ -16,8 +17,11 @@ coming-spec =
     (λ c κs. search needs)
     (λ c κs. search needs)
     (λ c κs. search needs)
-    (λ c. let a = c .before .before .before .before .before .before .before .args in let m = frameAt (now (a .ws)) (a .k) in coming-stmt (now (a .s)) (now (a .places)) m (a .at) _ (c .stmt .result) (c .before .before .before .before .before .byte .ensures) (c .before .before .before .before .after .ensures) (c .before .before .before .done .ensures) (omega (arith, c .before .before .before .before .before .byte .ok)) (c .before .before .if1 .taken) (c .before .statements-end .ensures) (c .stmt .ensures))
     (λ c κs. search needs)
+    (λ c κs. search needs)
+    (λ c κs. search needs)
+    (λ c κs. search needs)
+    (λ c. let a = c .before .before .before .before .before .before .before .before .before .before .before .args in let m = frameAt (now (a .ws)) (a .k) in ⊎-elim (λ w. coming-stmt (now (a .s)) (now (a .places)) m (a .at) _ (c .valued .result) (c .before .before .before .before .before .before .before .before .before .byte .ensures) (c .before .before .before .before .before .before .before .after .ensures) (c .before .before .before .before .before .before .before .before .done .ensures) (c .before .before .before .before .before .before .next-at .ensures) (c .before .before .before .before .before .byte2 .ensures) (c .before .before .eval .result) (c .before .before .before .after2 .ensures) (c .before .before .eval .ensures) (c .before .function .ensures) (omega (arith, c .before .before .before .before .before .before .before .before .before .byte .ok)) (w .taken) (c .valued .ensures)) (λ w. coming-if (now (a .s)) (now (a .places)) m (a .at) _ (c .valued .result) (c .before .before .before .before .before .before .before .before .before .byte .ensures) (c .before .before .before .before .before .before .before .after .ensures) (c .before .before .before .before .before .before .before .before .done .ensures) (c .before .before .before .before .before .before .next-at .ensures) (c .before .before .before .before .before .byte2 .ensures) (c .before .before .eval .result) (c .before .before .before .after2 .ensures) (c .before .before .eval .ensures) (c .before .function .ensures) (w .0 .left) (w .1 .taken) (c .valued .ensures)) (c .before .before .before .before .if1 .came))
     (λ c κs. search needs)
     (λ c. search needs)
-    (λ c. let a = c .before .before .before .before .before .before .before .before .before .args in let m = frameAt (now (a .ws)) (a .k) in coming-transfer (now (a .s)) (now (a .places)) m (a .at) _ (c .before .transfer .result) (c .before .before .before .before .before .before .before .byte .ensures) (c .before .before .before .before .before .before .after .ensures) (c .before .before .before .before .before .done .ensures) (c .before .before .before .before .if1 .left) (c .before .before .before .statements-end2 .ensures) (c .before .transfer .ensures)))
+    (λ c. let a = c .before .before .before .before .before .before .before .before .before .before .before .args in let m = frameAt (now (a .ws)) (a .k) in coming-transfer (now (a .s)) (now (a .places)) m (a .at) _ (c .before .transfer .result) (c .before .before .before .before .before .before .before .before .before .byte .ensures) (c .before .before .before .before .before .before .before .after .ensures) (c .before .before .before .before .before .before .before .before .done .ensures) (c .before .before .before .before .before .before .next-at .ensures) (c .before .before .before .before .before .byte2 .ensures) (c .before .before .before .before .if1 .left) (c .before .before .before .if2 .left) (c .before .transfer .ensures)))

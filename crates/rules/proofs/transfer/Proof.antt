@@ -1,5 +1,5 @@
 -- `rules::transfer` meets its contract.
-use Rattle.rules.proofs.Steps.{transfer-goto, transfer-if, transfer-call, transfer-return, transfer-ends}
+use Rattle.rules.proofs.Steps.{transfer-goto, transfer-call, transfer-return, transfer-ends}
 use denote.Ref.{now}
 use Rattle.frames.specs.InPlace.{frameAt}
 use borrow.Author.Needs.{needs}
@@ -16,17 +16,15 @@ transfer-spec =
     (λ c. search needs)
     (λ c. let a = c .before .before .before .before .before .before .before .args in let m = frameAt (now (a .ws)) (a .k) in transfer-goto (now (a .s)) (now (a .places)) m (a .at) _ (c .before .goto .result) (c .before .before .before .before .before .byte .ensures) (c .before .before .before .before .after .ensures) (c .before .before .before .if1 .taken) (c .before .goto .ensures))
     (λ c κs. search needs)
-    (λ c. let a = c .before .before .before .before .before .before .args in let m = frameAt (now (a .ws)) (a .k) in transfer-if (now (a .s)) (now (a .places)) m (a .at) _ (c .test .result) (c .before .before .before .before .byte .ensures) (c .before .before .before .after .ensures) (c .before .if2 .taken) (c .test .ensures))
-    (λ c κs. search needs)
     (λ c κs. search needs)
     (λ c κs. search needs)
     (λ c κs. search needs)
     (λ c. search needs)
-    (λ c. let a = c .before .before .before .before .before .before .before .before .before .before .before .before .args in let m = frameAt (now (a .ws)) (a .k) in transfer-call (now (a .s)) (now (a .places)) m (a .at) _ (c .before .call .result) (c .before .before .before .before .before .before .before .before .before .before .byte .ensures) (c .before .before .before .before .before .before .before .before .before .after .ensures) (c .before .before .before .before .before .if3 .taken) (c .before .before .before .before .before .before .after2 .ensures) (c .before .before .before .before .list-end .ensures) (c .before .before .before .byte2 .ensures) (c .before .call .ensures))
+    (λ c. let a = c .before .before .before .before .before .before .before .before .before .before .before .args in let m = frameAt (now (a .ws)) (a .k) in transfer-call (now (a .s)) (now (a .places)) m (a .at) _ (c .before .call .result) (c .before .before .before .before .before .before .before .before .before .byte .ensures) (c .before .before .before .before .before .before .before .before .after .ensures) (c .before .before .before .before .before .if2 .taken) (c .before .before .before .before .before .before .after2 .ensures) (c .before .before .before .before .list-end .ensures) (c .before .before .before .byte2 .ensures) (c .before .call .ensures))
     (λ c κs. search needs)
     (λ c. search needs)
-    (λ c. let a = c .before .before .before .before .before .before .before .before .before .before .before .args in let m = frameAt (now (a .ws)) (a .k) in transfer-return (now (a .s)) (now (a .places)) m (a .at) _ (c .before .give-back .result) (c .before .before .before .before .before .before .before .before .before .byte .ensures) (c .before .before .before .before .before .before .before .before .after .ensures) (c .before .before .before .if4 .taken) (c .before .give-back .ensures))
+    (λ c. let a = c .before .before .before .before .before .before .before .before .before .before .args in let m = frameAt (now (a .ws)) (a .k) in transfer-return (now (a .s)) (now (a .places)) m (a .at) _ (c .before .give-back .result) (c .before .before .before .before .before .before .before .before .byte .ensures) (c .before .before .before .before .before .before .before .after .ensures) (c .before .before .before .if3 .taken) (c .before .give-back .ensures))
     (λ c κs. search needs)
     (λ c κs. search needs)
     (λ c κs. search needs)
-    (λ c. let a = c .before .before .before .before .before .before .before .before .before .before .before .args in let m = frameAt (now (a .ws)) (a .k) in transfer-ends (now (a .s)) (now (a .places)) m (a .at) _ (c .ends .result) (c .before .before .before .before .before .before .before .before .before .byte .ensures) (c .before .before .before .before .before .before .before .before .after .ensures) (c .before .before .before .before .before .before .before .if1 .left) (c .before .before .before .before .before .before .if2 .left) (c .before .before .before .before .if3 .left) (c .before .before .before .if4 .left) (c .before .before .before .before .before .after2 .ensures) (c .before .before .byte3 .ensures) (c .before .byte4 .ensures) (c .ends .ensures)))
+    (λ c. let a = c .before .before .before .before .before .before .before .before .before .before .args in let m = frameAt (now (a .ws)) (a .k) in transfer-ends (now (a .s)) (now (a .places)) m (a .at) _ (c .ends .result) (c .before .before .before .before .before .before .before .before .byte .ensures) (c .before .before .before .before .before .before .before .after .ensures) (c .before .before .before .before .before .before .if1 .left) (c .before .before .before .before .if2 .left) (c .before .before .before .if3 .left) (c .before .before .before .before .before .after2 .ensures) (c .before .before .byte3 .ensures) (c .before .byte4 .ensures) (c .ends .ensures)))

@@ -20,6 +20,6 @@ decide-spec =
     (λ c. search needs)
     (λ c. decides-return (c .before .before .before .before .before .before .before .pre .2) _ (c .before .before .before .before .act .result) (c .before .before .before .before .act .ensures) _ (c .before .enum-told2 .given .1) (search needs) (c .returning .ensures))
     (λ c. search needs)
-    (λ c. decides-joined (c .before .before .before .before .before .before .before .before .before .before .before .pre .2) _ (c .before .before .before .before .before .before .before .before .act .result) (c .before .before .before .before .before .before .before .before .act .ensures) _ _ (c .before .before .before .before .before .does .given .1) (c .before .before .before .function .ensures) (c .before .joining .ensures))
+    (λ c. decides-joined (c .before .before .before .before .before .before .before .before .before .before .pre .2) _ (c .before .before .before .before .before .before .before .act .result) (c .before .before .before .before .before .before .before .act .ensures) _ _ (c .before .before .before .before .enum-told3 .given .1) (c .before .before .before .function .ensures) (c .before .joining .ensures))
     (λ c. search needs)
     (λ c. decides-act (c .before .before .before .before .before .pre .2) _ (c .before .before .act .result) (c .before .before .act .ensures) (c .match .keys4)))

@@ -14,13 +14,18 @@ promote-spec =
     (λ c κs. search needs)
     (λ c. search needs)
     (λ c. promotes-full (c .before .before .before .before .before .oldest .result) (c .before .before .before .before .before .oldest .ensures .1) (not-false _ (c .before .before .before .if1 .left)) (c .before .thread-count .ensures) (search needs))
-    (λ c κs. search needs)
     (λ c. search needs)
     (λ c κs. search needs)
     (λ c. search needs)
     (λ c. search needs)
     (λ c κs. search needs)
     (λ c. search needs)
-    (λ c. promotes-made (c .before .before .before .before .before .before .before .before .before .before .before .before .before .before .before .before .before .oldest .result) (c .before .before .before .before .before .before .before .before .before .before .before .before .before .before .before .before .before .oldest .ensures .1) (not-false _ (c .before .before .before .before .before .before .before .before .before .before .before .before .before .before .before .if1 .left)) (c .before .before .before .before .before .before .before .before .before .before .before .before .before .thread-count .ensures) _ (c .before .before .before .before .before .before .before .before .child .result) (search needs) (c .before .before .before .before .before .before .before .before .before .before .frame-start .ensures) (c .before .before .before .before .before .before .before .before .child .ensures) _ (c .before .before .before .before .before .does .given .1) (c .before .spawn .ensures))
+    (λ c.
+    let o = c .before .before .before .before .before .before .before .before .before .before .before .before .before .before .before in
+    promotes-made (o .oldest .result) (o .oldest .ensures .1) (not-false _ (c .before .before .before .before .before .before .before .before .before .before .before .before .before .if1 .left)) (c .before .before .before .before .before .before .before .before .before .before .before .thread-count .ensures) _ (c .before .before .before .before .before .before .before .child .result) (search needs)
+    (c .before .before .before .before .before .before .before .child .ensures) _ (c .before .before .before .before .enum-told .given .1) (c .before .spawn .ensures))
     (λ c. search needs)
-    (λ c. promotes-unmet (c .before .before .before .before .before .before .before .before .before .before .before .oldest .result) (c .before .before .before .before .before .before .before .before .before .before .before .oldest .ensures .1) (not-false _ (c .before .before .before .before .before .before .before .before .before .if1 .left)) (c .before .before .before .before .before .before .before .thread-count .ensures) _ (c .before .before .child .result) (search needs) (c .before .before .before .before .frame-start .ensures) (c .before .before .child .ensures) (c .match .keys2)))
+    (λ c.
+    let o = c .before .before .before .before .before .before .before .before .before .before in
+    promotes-unmet (o .oldest .result) (o .oldest .ensures .1) (not-false _ (c .before .before .before .before .before .before .before .before .if1 .left)) (c .before .before .before .before .before .before .thread-count .ensures) _ (c .before .before .child .result) (search needs)
+    (c .before .before .child .ensures) (c .match .keys2)))

@@ -1,5 +1,6 @@
 use borrow.Author.Needs.{needs}
 use denote.Ref.{now}
+use mathlib.Core.Path.{refl}
 use Rattle.steps.proofs.Writing.{was-pushed, not-pushed}
 use Rattle.steps.proofs.push.Statement.{statement}
 use Rattle.steps.proofs.push.Tie as tie
@@ -10,9 +11,14 @@ push-spec =
     (tie.spec
     (λ c κs. search needs)
     (λ c κs. search needs)
+    (λ c. search needs)
     (λ c κs. search needs)
     (λ c κs. search needs)
     (λ c. search needs)
-    (λ c. let s = c .before .before .before .before .before .before .before .before .before .before .args in was-pushed (s .g) (s .n) (s .b) (now (s .out)) (c .before .before .before .before .before .begin .result) (c .before .before .before .before .before .before .before .before .before .before .pre .2) (c .before .before .before .before .before .begin .ensures) (c .before .before .before .before .push-frame .ensures) (c .before .jump .ensures))
+    (λ c.
+    let s = c .before .before .before .before .before .before .before .before .before .before .before .before in
+    was-pushed (s .args .g) (s .args .n) (s .args .b) (now (s .args .out)) (s .pre .2) refl
+    (c .before .before .before .before .before .before .before .push-frame .ensures) (c .before .before .before .before .begin .ensures)
+    (c .before .jump .ensures))
     (λ c. search needs)
     (λ c. let s = c .before .before .before .args in not-pushed (s .g) (s .n) (s .b) (now (s .out)) (c .before .frame-count .ensures) (c .if1 .left)))
