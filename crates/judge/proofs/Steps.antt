@@ -1,10 +1,11 @@
 -- What a turn of each loop over words leaves, and what the tests on a word tell.
-use Prim.Native.Nat.{ℕ, _+_, _-_, _/_, _%_, _^_, _≤_, _<_}
-use mathlib.Core.Path.{_≡_, refl, sym, _∙_, ap}
+use Prim.Native.Nat.{ℕ, zero, suc, _+_, _-_, _/_, _%_, _^_, _≤_, _<_}
+use mathlib.Core.Path.{_≡_, refl, sym, ap, _∙_}
 use mathlib.Core.Bool.{Bool, true, false, _&&_, _||_}
 use mathlib.Core.List.{List}
 use native.Mathlib.Omega.{arith}
 use native.Mathlib.Numerals.{add-one}
+use lib.Bits.{bitOr, or-add-and, and-le-r}
 use lib.Dec.{eqb}
 use lib.IntN.{ℤ, pos, negsuc, natAbs}
 use lib.Signed.{ltZ}
@@ -14,13 +15,10 @@ use mir.Syntax.{w32}
 use mir.Val.{toZ, ofZ, SFits}
 use mir.Facts.{toZ-ofZ}
 use Rattle.model.specs.Lists.{all}
-use Rattle.model.specs.Values.{same}
 use Rattle.model.specs.Sets.{has}
 use Rattle.model.specs.Pool.{blank}
-use Rattle.model.proofs.Facts.{true-false, right-or, ltb-true, eq-eqb, ne-eqb}
-use Rattle.model.proofs.Valid.{same-true}
+use Rattle.model.proofs.Facts.{true-false, ltb-true, ne-eqb}
 use Rattle.judge.specs.Judged.{plain, isZero, IsNumber}
-use Rattle.judge.proofs.Bools.{fails}
 
 -- a word as a number
 pub below-zero : (w : ℤ) → SFits w32 w → ltZ (toZ w32 (ofZ w32 w)) (pos 0) ≡ true → IsNumber w 2147483648
@@ -72,17 +70,27 @@ module _ (f : ℤ → Bool) (ws : List ℤ) (i : ℕ) (h : all f ws ≡ all f (d
   unfolding all
   all-ends l = sym (h ∙ rw (drop-of-length-le ws l) refl)
 
--- all of a list, and of the values: what is known of those before i, and the rest
+-- bits put together are 0 where both are
+or-test : (a b : ℕ) → eqb (bitOr a b) 0 ≡ (eqb a 0 && eqb b 0)
+or-test zero b = refl
+or-test (suc a) b =
+    ne-eqb (bitOr (suc a) b) 0 (λ e. absurd (omega (arith, or-add-and (suc a) b, and-le-r (suc a) b)))
+    ∙ sym (ap (λ (t : Bool). t && eqb b 0) (ne-eqb (suc a) 0 (λ e. absurd (omega arith))))
+
+-- all of a list: what is known of those before i, and the rest
+module _ (ws : List ℤ) (i bits : ℕ) where
+  pub zeros-turn : {n : ℕ} → all isZero ws ≡ (eqb bits 0 && all isZero (drop i ws)) → i < length ws → SFits w32 (getD ws i (pos 0))
+      → n ≡ ofZ w32 (toZ w32 (ofZ w32 (getD ws i (pos 0)))) → all isZero ws ≡ (eqb (bitOr bits n) 0 && all isZero (drop (i + 1) ws))
+  unfolding all
+  zeros-turn h l f e =
+      h ∙ rw (add-one, drop-cons ws i (pos 0), or-test bits _, e, toZ-ofZ f, zero-test (getD ws i (pos 0)) f) (and-assoc (eqb bits 0) _ _)
+
+  pub zeros-end : all isZero ws ≡ (eqb bits 0 && all isZero (drop i ws)) → length ws ≤ i → eqb bits 0 ≡ all isZero ws
+  unfolding all
+  zeros-end h l = sym (h ∙ rw (drop-of-length-le ws l) (and-true (eqb bits 0)))
+
+-- and of the values
 module _ (ws : List ℤ) (i : ℕ) (fine : Bool) where
-  pub zeros-turn : all isZero ws ≡ (fine && all isZero (drop i ws)) → i < length ws → SFits w32 (getD ws i (pos 0))
-      → all isZero ws ≡ ((fine && eqb (ofZ w32 (getD ws i (pos 0))) 0) && all isZero (drop (i + 1) ws))
-  unfolding all
-  zeros-turn h l f = h ∙ rw (add-one, drop-cons ws i (pos 0), zero-test (getD ws i (pos 0)) f) (and-assoc fine _ _)
-
-  pub zeros-end : all isZero ws ≡ (fine && all isZero (drop i ws)) → length ws ≤ i → fine ≡ all isZero ws
-  unfolding all
-  zeros-end h l = sym (h ∙ rw (drop-of-length-le ws l) (and-true fine))
-
   blank-step : (Γ : ℕ) → i < length ws → blank Γ i (drop i ws) ≡ ((has Γ i || isZero (getD ws i (pos 0))) && blank Γ (i + 1) (drop (i + 1) ws))
   unfolding blank isZero
   blank-step Γ l = rw (drop-cons ws i (pos 0), add-one)

@@ -24,17 +24,17 @@ fn number(ws: &[i32], i: usize) -> usize
     if w < 0 { 2147483648 } else { w as usize }
 }
 
-// Are they all 0? No early end: many are looked at together.
+// Are they all 0? Their bits are put together, with no early end, so that many are looked at at once.
 fn zeros(ws: &[i32]) -> bool
     ensures { λ r. ⌜ r ≡ all isZero (now (ws .entry)) ⌝ }
 {
-    let mut fine = true;
+    let mut bits: u32 = 0;
     let mut i = 0;
     while i < ws.len() {
-        fine = fine & (ws[i] == 0);
+        bits = bits | words::bits(ws[i]);
         i += 1;
     }
-    fine
+    bits == 0
 }
 
 // Are the values of the unbound temporaries 0?
@@ -99,18 +99,24 @@ fn frame(s: &[u8], places: &[u16; 656], w: &[i32]) -> bool
     ensures { λ r. ⌜ JudgesFrame (now (s .entry)) (now (places .entry)) (now (w .entry)) r ⌝ }
 {
     let f = number(w, 0);
-    let opened = number(w, 4);
+    let opened = number(w, Pool::OPENED_AT);
     if Pool::CALLS < opened {
         return false;
     }
     if opened < number(w, Pool::PROMOTED_AT) {
         return false;
     }
-    let bound = number(w, 3);
+    let bound = number(w, Pool::BOUND_AT);
     if 65535 < bound {
         return false;
     }
-    if !place(s, places, f, number(w, 1), number(w, 2)) {
+    if !place(
+        s,
+        places,
+        f,
+        number(w, Pool::BLOCK_AT),
+        number(w, Pool::DONE_AT),
+    ) {
         return false;
     }
     let k = Pool::CALLS_AT + opened;
@@ -128,7 +134,8 @@ fn follow(w: &[i32], newest: bool, free: bool) -> bool
     requires { ⌜ length (now w) ≡ frameWords ⌝ }
     ensures { λ r. ⌜ r ≡ follows newest free (now (w .entry)) ⌝ }
 {
-    (newest | (number(w, 2) == 0)) & (free | (number(w, Pool::PROMOTED_AT) == number(w, 4)))
+    (newest | (number(w, Pool::DONE_AT) == 0))
+        & (free | (number(w, Pool::PROMOTED_AT) == number(w, Pool::OPENED_AT)))
 }
 
 // The first n frames of a thread, the newest, which is the last, first. `free`: no newer frame has a promoted call.

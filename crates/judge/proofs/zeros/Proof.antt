@@ -1,9 +1,10 @@
--- `judge::zeros`: the words before i are 0, or not fine.
+-- `judge::zeros`: the words before i are 0 where their bits are.
 use Prim.Native.Nat.{_-_}
 use mathlib.Core.Path.{_≡_, refl}
 use mathlib.Core.Bool.{_&&_}
 use native.Mathlib.Omega.{arith}
-use borrow.Author.Needs.{sfits-of}
+use borrow.Author.Needs.{needs, sfits-of}
+use lib.Dec.{eqb}
 use lib.ListN.{length, drop}
 use Rattle.model.specs.Lists.{all}
 use Rattle.judge.specs.Judged.{isZero}
@@ -12,10 +13,10 @@ use Rattle.judge.proofs.zeros.Statement.{statement}
 use Rattle.judge.proofs.zeros.Tie as tie
 
 abbrev Inv-loop : tie.InvT-loop
-Inv-loop ws fine₀ i₀ fine i = all isZero ws ≡ (fine && all isZero (drop i ws))
+Inv-loop ws bits₀ i₀ bits i = all isZero ws ≡ (eqb bits 0 && all isZero (drop i ws))
 
 abbrev μ-loop : tie.MeasureT-loop
-μ-loop ws fine₀ i₀ fine i = length ws - i
+μ-loop ws bits₀ i₀ bits i = length ws - i
 
 pub zeros-spec : {M : Type 1} → statement M
 zeros-spec =
@@ -26,7 +27,8 @@ zeros-spec =
     (λ c. refl)
     (λ c. omega arith)
     (λ c. omega arith)
+    (λ c κs. search needs)
     (λ c. omega arith)
     (λ c. omega arith)
-    (λ c. zeros-turn _ _ (c .before .before .loop .fine) (c .before .before .loop .inv) (omega arith) (sfits-of (c .fine .given)))
-    (λ c. zeros-end (c .before .before .args .ws .now) (c .before .loop .i) (c .before .loop .fine) (c .before .loop .inv) (omega arith)))
+    (λ c. zeros-turn _ _ (c .before .before .before .loop .bits) (c .before .before .before .loop .inv) (omega arith) (sfits-of (c .before .bits-arg .given)) (c .bits .ensures))
+    (λ c. zeros-end (c .before .before .args .ws .now) (c .before .loop .i) (c .before .loop .bits) (c .before .loop .inv) (omega arith)))
