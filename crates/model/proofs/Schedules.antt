@@ -1,14 +1,14 @@
 -- Laws of schedules: one from a valid pool leaves a valid pool; a schedule split in two at any point and put one after the other
 -- gives the same as the whole.
 use Prim.Native.Nat.{ℕ, _+_}
-use mathlib.Core.Path.{_≡_, refl, sym, _∙_, ap, subst}
+use mathlib.Core.Path.{_≡_, refl, sym, _∙_, ap}
 use mathlib.Core.Bool.{true}
 use mathlib.Core.Option.{Option, none, some}
 use mathlib.Core.List.{List, [], _∷_, _++_}
 use native.Mathlib.Nat.{zero-add}
 use native.Mathlib.Omega.{arith}
 use lib.IntN.{ℤ}
-use Rattle.model.specs.Answers.{Refusal, Answer}
+use Rattle.model.specs.Answers.{Answer}
 use Rattle.model.specs.Syntax.{Program}
 use Rattle.model.specs.Pool.{Pool, wordsOf, isPool}
 use Rattle.model.specs.Rules.{Result, choice}

@@ -1,15 +1,15 @@
 -- The check: the first fault of a program in document 01's order, with its number (4 to 11) and its place.
 use Prim.Native.Nat.{ℕ, _+_}
-use mathlib.Core.Bool.{Bool, true, false, not, _&&_, _||_}
+use mathlib.Core.Bool.{Bool, not, _&&_, _||_}
 use mathlib.Core.Option.{Option, none, some}
 use mathlib.Core.List.{List, [], _∷_, _++_}
 use lib.Dec.{eqb}
-use lib.ListN.{length, getD, getElem?}
+use lib.ListN.{length, getElem?}
 use Rattle.model.specs.Numbers as No
 use Rattle.model.specs.Answers.{Refusal, Answer}
 use Rattle.model.specs.Lists.{all, equal, unsnoc}
 use Rattle.model.specs.Sets.{has, with, withAll, within, below}
-use Rattle.model.specs.Syntax.{Expression, Statement, Transfer, Head, Block, SpawnCall, Signature, Function, Program, uses}
+use Rattle.model.specs.Syntax.{Statement, Transfer, Head, Block, SpawnCall, Function, Program, uses}
 use Rattle.model.specs.Tests.{Tests, _then_, fault}
 use Rattle.model.specs.WellFormed.{Env, env}
 

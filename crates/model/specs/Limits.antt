@@ -1,9 +1,9 @@
 -- What every table that reads keeps to: temporaries below 16, and each count within document 01's range.
 use Prim.Native.Nat.{ℕ, _≤_, _<_, _^_}
-use mathlib.Core.List.{List, [], _∷_}
+use mathlib.Core.List.{List}
 use lib.ListN.{length}
 use Rattle.model.specs.Lists.{Each}
-use Rattle.model.specs.Syntax.{Expression, Statement, Transfer, Head, Block, SpawnCall, Function, Program, uses}
+use Rattle.model.specs.Syntax.{Statement, Transfer, Head, Block, SpawnCall, Function, Program, uses}
 use Rattle.model.specs.Pool.{temporaries}
 
 abbrev pub Temporaries : List ℕ → Type 0

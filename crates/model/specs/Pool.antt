@@ -5,11 +5,11 @@ use mathlib.Core.Option.{Option, none, some}
 use mathlib.Core.List.{List, [], _∷_, _++_, map, reverse}
 use lib.Dec.{eqb, leb, ltb}
 use lib.IntN.{ℤ, pos}
-use lib.ListN.{length, getD, getElem?, take, drop, replicate}
+use lib.ListN.{length, getD, getElem?, take, drop}
 use Rattle.model.specs.Lists.{all, pad, concat}
 use Rattle.model.specs.Values.{same, number}
 use Rattle.model.specs.Sets.{has, below}
-use Rattle.model.specs.Syntax.{Statement, Block, Function, Program}
+use Rattle.model.specs.Syntax.{Block, Function, Program}
 
 -- the layout: every number of it, once
 abbrev pub temporaries : ℕ

@@ -7,7 +7,7 @@ use lib.ListN.{length, getD}
 use Rattle.model.specs.Numbers as No
 use Rattle.model.specs.Answers.{Refusal, Answer}
 use Rattle.model.specs.Values.{signed}
-use Rattle.model.specs.Syntax.{Atom, Expression, Statement, Transfer, Head, Block, SpawnCall, Signature, Function, Program}
+use Rattle.model.specs.Syntax.{Atom, Expression, Statement, Transfer, Head, Block, SpawnCall, Function, Program}
 
 -- what reading at an offset finds: a value and the offset behind it, or the place of the first bad byte
 pub data Parsed (A : Type 0) : Type 0 where

@@ -1,10 +1,8 @@
 -- Tests in order, each with the number that it gives where it fails: the check is such a tree.
 use Prim.Native.Nat.{ℕ}
-use mathlib.Core.Path.{_≡_}
 use mathlib.Core.Bool.{Bool, true, false}
 use mathlib.Core.Option.{Option, none, some}
 use mathlib.Core.List.{List, [], _∷_}
-use Rattle.model.specs.Lists.{Each}
 
 infixr 30 _then_
 pub data Tests : Type 1 where

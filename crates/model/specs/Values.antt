@@ -1,6 +1,6 @@
 -- Values: signed 32-bit numbers. Sums and negations keep the low 32 bits.
 use Prim.Native.Nat.{ℕ, suc, _-_, _^_, _%_}
-use mathlib.Core.Bool.{Bool, true, false, cond}
+use mathlib.Core.Bool.{Bool, false, cond}
 use lib.Dec.{eqb}
 use lib.IntN.{ℤ, pos, negsuc, _+ℤ_, negℤ}
 use lib.Signed.{ltZ}

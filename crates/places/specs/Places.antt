@@ -7,7 +7,7 @@ use mathlib.Core.Bool.{cond}
 use mathlib.Core.List.{List}
 use lib.Dec.{eqb}
 use lib.ListN.{length, getD, getElem?}
-use Rattle.model.specs.Syntax.{Block, SpawnCall, Function, Program}
+use Rattle.model.specs.Syntax.{SpawnCall, Function, Program}
 use Rattle.model.specs.Read as Read
 use Rattle.model.specs.Read.{Parsed, Parser}
 use Rattle.model.specs.Pool.{blockIn}

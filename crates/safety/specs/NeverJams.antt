@@ -11,7 +11,7 @@ use Rattle.model.specs.Answers.{Refusal, Answer, numberOf}
 use Rattle.model.specs.Lists.{Each}
 use Rattle.model.specs.Sets.{_∈_}
 use Rattle.model.specs.Syntax.{Transfer, Block, Function, Program}
-use Rattle.model.specs.Pool.{Frame, Thread, Pool, poolWords, blockOf}
+use Rattle.model.specs.Pool.{Frame, Thread, poolWords, blockOf}
 use Rattle.model.specs.Calls as Calls
 use Rattle.model.specs.Calls.{Choice, Lent, lent, check, read}
 

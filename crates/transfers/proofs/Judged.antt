@@ -1,26 +1,25 @@
 -- The laws that the transfers' proofs cite: the verdict on what is read, from what the lookups and the walks say.
-use Prim.Native.Nat.{ℕ, zero, suc, _+_, _-_, _≤_, _<_}
+use Prim.Native.Nat.{ℕ, _+_, _-_, _≤_, _<_}
 use mathlib.Core.Path.{_≡_, refl, sym, _∙_, ap, subst}
-use mathlib.Core.Logic.{_⊎_, inl, inr}
-use mathlib.Core.Bool.{Bool, true, false}
-use mathlib.Core.Option.{Option, none, some, Option·map}
+use mathlib.Core.Logic.{inl, inr}
+use mathlib.Core.Bool.{true}
+use mathlib.Core.Option.{none, some, Option·map}
 use mathlib.Core.List.{List, [], _∷_, _++_}
 use native.Mathlib.Omega.{arith}
-use lib.Dec.{eqb}
 use lib.ListN.{length, getD, getElem?}
-use Rattle.model.specs.Lists.{all, equal, Snoc, unsnoc}
+use Rattle.model.specs.Lists.{all, equal, unsnoc}
 use Rattle.model.specs.Sets.{has}
 use Rattle.model.specs.Syntax.{Expression, Transfer, Head, SpawnCall, Signature, Function, Program, uses}
 use Rattle.model.specs.Read as Read
 use Rattle.model.specs.Read.{Parsed, Parser, byte, counted, pick}
 use Rattle.model.specs.Tests.{Tests, _then_, fault}
-use Rattle.model.specs.WellFormed.{Env, env, signatureOf}
+use Rattle.model.specs.WellFormed.{env, signatureOf}
 use Rattle.model.specs.Check as Check
 use Rattle.model.proofs.Facts.{eq-eqb, ne-eqb, unsnoc-snoc, none-some, some-injective}
 use Rattle.model.proofs.Reading.{next-ok, ok-value, ok-offset, byte-ok, counted-ok}
 use Rattle.places.specs.declared.Place.{Place}
 use Rattle.places.specs.declared.Place.the-variants.{At, Nowhere}
-use Rattle.places.specs.Places.{Reads, Places, FindsSpawn}
+use Rattle.places.specs.Places.{Places, FindsSpawn}
 use Rattle.walks.specs.declared.Seen.{Seen}
 use Rattle.walks.specs.declared.Seen.the-variants.{Bound, Unbound}
 use Rattle.walks.specs.Walks.{SeenAs, SeesExpression, SeesList}
@@ -34,7 +33,7 @@ use Rattle.transfers.specs.declared.Callee.the-variants.{Takes, Unknown}
 use Rattle.transfers.specs.declared.Here.{Here}
 use Rattle.transfers.specs.declared.Verdict.{Verdict}
 use Rattle.transfers.specs.declared.Verdict.the-variants.{Fine, Fault}
-use Rattle.transfers.specs.Targets.{verdictOf, Within, Nest, IsHead, TargetIs, Targets, signature, CalleeIs, Callees, SpawnedIs, Spawns, One, Both, Grown, Judges}
+use Rattle.transfers.specs.Targets.{Within, Nest, IsHead, TargetIs, Targets, signature, CalleeIs, Callees, SpawnedIs, Spawns, One, Both, Grown, Judges}
 use Rattle.transfers.proofs.Heads.{spawn-found}
 use Rattle.transfers.proofs.Nestings.{nest-length, nest-last, equal-lengths, bound-holds, bound-fails}
 

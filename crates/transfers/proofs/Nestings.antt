@@ -1,8 +1,8 @@
 -- Nestings compared where they lie in the table, and the tests of a target.
-use Prim.Native.Nat.{ℕ, zero, suc, _+_, _-_, _≤_, _<_}
+use Prim.Native.Nat.{ℕ, suc, _+_, _-_}
 use mathlib.Core.Path.{_≡_, refl, sym, _∙_, ap, subst}
 use mathlib.Core.Bool.{Bool, true, false, _&&_}
-use mathlib.Core.Option.{Option, none, some}
+use mathlib.Core.Option.{none, some}
 use mathlib.Core.List.{List, [], _∷_, _++_}
 use native.Mathlib.Omega.{arith}
 use lib.Dec.{eqb}
@@ -11,12 +11,10 @@ use Rattle.model.specs.Lists.{all, equal}
 use Rattle.model.specs.Sets.{has, within}
 use Rattle.model.specs.Syntax.{Head}
 use Rattle.model.specs.Read as Read
-use Rattle.model.specs.Read.{Parsed, many}
-use Rattle.model.specs.Tests.{Tests, fault}
+use Rattle.model.specs.Tests.{fault}
 use Rattle.model.specs.Check as Check
 use Rattle.model.proofs.Facts.{eq-eqb, ne-eqb}
 use Rattle.model.proofs.Reading.{ok-value, many-length, many-item, many-snoc}
-use Rattle.places.specs.Places.{Reads}
 use Rattle.walks.specs.Walks.{Same}
 use Rattle.walks.proofs.Parts.{name-ok}
 use Rattle.walks.proofs.Faults.{need-fails, need-holds}

@@ -1,7 +1,6 @@
 // Transfers over the places: a target is looked up by number, read once into a small struct, and tested by plain values.
 use places::Place;
 use walks::Seen;
-ghost use mathlib.Core.Path.{_≡_};
 ghost use Prim.Native.Nat.{_≤_};
 ghost use lib.ListN.{length};
 ghost use Rattle.model.specs.Read as Read;

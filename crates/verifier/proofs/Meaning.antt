@@ -1,11 +1,11 @@
 -- The check's answer, from reading and from the judgement by the places; and what it means.
 use Prim.Native.Nat.{ℕ}
-use mathlib.Core.Path.{_≡_, refl, sym, _∙_, ap, subst}
+use mathlib.Core.Path.{_≡_, refl, sym, _∙_, ap}
 use mathlib.Core.List.{List}
 use Rattle.model.specs.Answers as Answers
 use Rattle.model.specs.Answers.{Refusal, Answer}
 use Rattle.model.specs.Syntax.{Program}
-use Rattle.model.specs.Check.{judge, tests, firstFault}
+use Rattle.model.specs.Check.{judge}
 use Rattle.model.specs.Calls as Calls
 use Rattle.model.specs.Calls.{read}
 use Rattle.model.proofs.Facts.{refused-given}
@@ -18,7 +18,7 @@ use Rattle.verifier.specs.declared.Checked.{Checked}
 use Rattle.verifier.specs.declared.Checked.the-variants.{Accepted, Size, Version, Form, Fault}
 use Rattle.verifier.specs.Verdicts.{answerOf, Judges}
 use Rattle.verifier.specs.Answers.{checkedOf}
-use Rattle.verifier.specs.Means.{WellFormed, Means}
+use Rattle.verifier.specs.Means.{Means}
 
 module _ (s : List ℕ) (r : Reading) (e : readingOf r ≡ outcome (read s)) where
   refused : (x : Refusal) → readingOf r ≡ Answer.refused x → Answer.refused x ≡ Calls.check s

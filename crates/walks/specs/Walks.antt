@@ -7,7 +7,7 @@ use mathlib.Core.List.{List}
 use Rattle.model.specs.Numbers as No
 use Rattle.model.specs.Lists.{all, equal}
 use Rattle.model.specs.Sets.{has, with, withAll}
-use Rattle.model.specs.Syntax.{Atom, Expression, Statement, Transfer, uses, usesAtom}
+use Rattle.model.specs.Syntax.{Statement, Transfer, uses, usesAtom}
 use Rattle.model.specs.Read as Read
 use Rattle.model.specs.Read.{Parsed, Parser}
 use Rattle.model.specs.Tests.{Tests, _then_, fault}

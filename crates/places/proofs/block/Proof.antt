@@ -2,9 +2,6 @@ use Rattle.places.proofs.Lookups.{block-at, block-past, block-none}
 use borrow.Author.Needs.{needs}
 use Rattle.places.proofs.block.Statement.{statement}
 use Rattle.places.proofs.block.Tie as tie
-use Rattle.places.proofs.block.Reads as reads
-use Rattle.places.proofs.block.Lts as lts
-use Rattle.places.proofs.entry.Reads as entry-reads
 
 mul-entry : tie.Need-mul-entry
 mul-entry c = search needs

@@ -1,8 +1,6 @@
 use borrow.Author.Tests.{eq-eqb, ne-eqb}
 use Rattle.places.proofs.entry.Statement.{statement}
 use Rattle.places.proofs.entry.Tie as tie
-use Rattle.places.proofs.entry.Reads as reads
-use Rattle.places.proofs.entry.Lts as lts
 
 returns : tie.Need-returns
 returns c = rw (eq-eqb _ _ (c .if1 .taken))

@@ -2,9 +2,6 @@ use Rattle.places.proofs.Lookups.{function-at, function-past}
 use borrow.Author.Needs.{needs}
 use Rattle.places.proofs.function.Statement.{statement}
 use Rattle.places.proofs.function.Tie as tie
-use Rattle.places.proofs.function.Reads as reads
-use Rattle.places.proofs.function.Lts as lts
-use Rattle.places.proofs.entry.Reads as entry-reads
 
 mul-entry : tie.Need-mul-entry
 mul-entry c = search needs

@@ -2,9 +2,6 @@ use Rattle.places.proofs.Lookups.{spawn-at, spawn-past, spawn-none}
 use borrow.Author.Needs.{needs}
 use Rattle.places.proofs.spawn.Statement.{statement}
 use Rattle.places.proofs.spawn.Tie as tie
-use Rattle.places.proofs.spawn.Reads as reads
-use Rattle.places.proofs.spawn.Lts as lts
-use Rattle.places.proofs.entry.Reads as entry-reads
 
 mul-entry : tie.Need-mul-entry
 mul-entry c = search needs
