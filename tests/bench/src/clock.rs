@@ -29,7 +29,7 @@ impl Duel {
 const BATCH: f64 = 1e6;
 const ALL: f64 = 1.5e9;
 const LEAST: usize = 9;
-const MOST: usize = 101;
+const MOST: usize = 1001;
 
 /// Times both sides in turn, many times; the side that begins changes.
 pub fn duel(mut library: impl FnMut(), mut fast: impl FnMut()) -> Duel {
