@@ -1,21 +1,19 @@
 -- A pool of a table that reads meets what the operations ask: its words hold it, its frames are small, and its threads and
 -- frames are there.
 use Prim.Native.Nat.{ℕ, zero, suc, _+_, _-_, _<_}
-use mathlib.Core.Path.{_≡_, refl, ap, subst, _∙_}
-use mathlib.Core.Bool.{true}
+use mathlib.Core.Path.{_≡_, refl, ap, _∙_}
 use mathlib.Core.List.{List, [], _∷_, _++_}
 use native.Mathlib.Omega.{arith}
-use lib.IntN.{ℤ}
 use lib.ListN.{length, length-append}
 use Rattle.model.specs.Lists.{Each}
 use Rattle.model.specs.Syntax.{Program}
 use Rattle.model.specs.Limits.{InBlock, InFunction, Limits}
-use Rattle.model.specs.Pool.{Frame, Thread, Pool, frames, functionOf, isPool, wordsOf}
+use Rattle.model.specs.Pool.{Frame, Thread, frames, functionOf}
 use Rattle.model.proofs.Facts.{each-map, each-at, at-below}
-use Rattle.model.proofs.Valid.{IsFrame, IsThread, IsPool, pool-facts}
-use Rattle.model.proofs.Words.{frame-fits, pool-fits}
+use Rattle.model.proofs.Valid.{IsFrame, IsThread}
+use Rattle.model.proofs.Words.{frame-fits}
 use Rattle.frames.specs.Frame.{Small}
-use Rattle.frames.specs.Held.{Held, ThreadAt, FrameAt}
+use Rattle.frames.specs.Held.{FrameAt}
 
 module _ {P : Program} (L : Limits P) where
   pub small-frame : {k : Frame} → IsFrame P k → Small k
@@ -36,12 +34,6 @@ module _ {P : Program} (L : Limits P) where
 
   pub small-thread : {t : Thread} → IsThread P t → Each Small (frames t)
   small-thread {t} h = (small-frame (h .newest), each-map (λ k o. small-frame (o .frame)) (t .older) (h .older))
-
-  pub small-pool : {p : Pool} → IsPool P p → Each (λ t. Each Small (frames t)) p
-  small-pool {p} h = each-map (λ t q. small-thread q) p (h .each)
-
-pub held : (P : Program) (p : Pool) → isPool P p ≡ true → Held (wordsOf p) p
-held P p e = record { words = refl; fits = pool-fits (pool-facts P p e) }
 
 -- the item at a place, between the items before it and those behind it
 pub record Split {A : Type 0} (l : List A) (i : ℕ) : Type 0 where
@@ -67,13 +59,7 @@ split {A} (x ∷ l) (suc i) h =
 split-length : {A : Type 0} {l : List A} {i : ℕ} (s : Split l i) → length l ≡ i + suc (length (s .behind))
 split-length s = ap length (s .is) ∙ length-append (s .before) (s .item ∷ s .behind) ∙ ap (λ (n : ℕ). n + suc (length (s .behind))) (s .place)
 
--- thread i of a pool that words hold, and frame j of a thread
-pub thread-there : {ws : List ℤ} {p : Pool} → Held ws p → (i : ℕ) → i < length p
-    → (s : Split p i) × ThreadAt ws i (s .before) (s .item) (s .behind)
-thread-there {ws} {p} h i l =
-    let s : Split p i = split p i l in
-    (s, record { held = subst (Held ws) (s .is) h; place = s .place })
-
+-- frame j of a thread
 pub frame-there : (t : Thread) (j : ℕ) → j < length (frames t)
     → (s : Split (frames t) (length (frames t) - suc j)) × FrameAt t j (s .before) (s .item) (s .behind)
 frame-there t j l =

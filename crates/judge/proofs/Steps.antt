@@ -18,6 +18,7 @@ use Rattle.model.specs.Lists.{all}
 use Rattle.model.specs.Sets.{has}
 use Rattle.model.specs.Pool.{blank}
 use Rattle.model.proofs.Facts.{true-false, ltb-true, ne-eqb}
+use Rattle.words.proofs.Wrapping.{zero-test}
 use Rattle.judge.specs.Judged.{plain, isZero, IsNumber}
 
 -- a word as a number
@@ -36,15 +37,6 @@ not-below w f t = rw (toZ-ofZ f) (go w f (rw (toZ-ofZ f) at t))
     go : (w : ℤ) → SFits w32 w → ltZ w (pos 0) ≡ false → IsNumber w (natAbs w)
     go (pos n) f t = record { is = refl; small = omega (arith, f .sfits) }
     go (negsuc n) f t = true-false true refl t
-
--- the test of a word for 0
-not-zero : (n : ℕ) → SFits w32 (negsuc n) → ofZ w32 (negsuc n) ≡ 0 → ⊥
-not-zero n f e = let h : n < 2 ^ 31 = f .sfits in omega arith
-
-pub zero-test : (w : ℤ) → SFits w32 w → eqb (ofZ w32 w) 0 ≡ isZero w
-unfolding isZero
-zero-test (pos n) f = refl
-zero-test (negsuc n) f = ne-eqb (ofZ w32 (negsuc n)) 0 (not-zero n f)
 
 and-assoc : (a b c : Bool) → (a && (b && c)) ≡ ((a && b) && c)
 and-assoc true b c = refl
@@ -81,7 +73,7 @@ or-test (suc a) b =
 module _ (ws : List ℤ) (i bits : ℕ) where
   pub zeros-turn : {n : ℕ} → all isZero ws ≡ (eqb bits 0 && all isZero (drop i ws)) → i < length ws → SFits w32 (getD ws i (pos 0))
       → n ≡ ofZ w32 (toZ w32 (ofZ w32 (getD ws i (pos 0)))) → all isZero ws ≡ (eqb (bitOr bits n) 0 && all isZero (drop (i + 1) ws))
-  unfolding all
+  unfolding all isZero
   zeros-turn h l f e =
       h ∙ rw (add-one, drop-cons ws i (pos 0), or-test bits _, e, toZ-ofZ f, zero-test (getD ws i (pos 0)) f) (and-assoc (eqb bits 0) _ _)
 
@@ -97,7 +89,7 @@ module _ (ws : List ℤ) (i : ℕ) (fine : Bool) where
 
   pub blank-turn : (Γ : ℕ) → blank Γ 0 ws ≡ (fine && blank Γ i (drop i ws)) → i < length ws → SFits w32 (getD ws i (pos 0))
       → blank Γ 0 ws ≡ ((fine && (eqb (Γ / 2 ^ i % 2) 1 || eqb (ofZ w32 (getD ws i (pos 0))) 0)) && blank Γ (i + 1) (drop (i + 1) ws))
-  unfolding has
+  unfolding has isZero
   blank-turn Γ h l f = h ∙ rw (blank-step Γ l, zero-test (getD ws i (pos 0)) f) (and-assoc fine _ _)
 
   pub blank-end : (Γ : ℕ) → blank Γ 0 ws ≡ (fine && blank Γ i (drop i ws)) → length ws ≤ i → fine ≡ blank Γ 0 ws

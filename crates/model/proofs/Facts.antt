@@ -71,9 +71,6 @@ pub map-some : {A B : Type 0} (f : A → B) (o : Option A) {b : B} → Option·m
 map-some f none e = none-some e
 map-some f (some a) e = (a, refl, some-injective e)
 
-pub some-map : {A B : Type 0} (f : A → B) (o : Option A) {a : A} → o ≡ some a → Option·map f o ≡ some (f a)
-some-map f o e = ap (Option·map f) e
-
 -- Each: weakened, appended, and as a test
 module _ {A : Type 0} where
   pub each-map : {P Q : A → Type 0} → ((x : A) → P x → Q x) → (xs : List A) → Each P xs → Each Q xs

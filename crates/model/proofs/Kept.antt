@@ -17,7 +17,7 @@ use Rattle.model.specs.Values.{same}
 use Rattle.model.specs.Sets.{has, with}
 use Rattle.model.specs.Syntax.{Expression, Statement, Transfer, Block, Function, Program}
 use Rattle.model.specs.Limits.{Temporaries, InStatement, InBlock, InFunction, Limits}
-use Rattle.model.specs.Pool.{Frame, Thread, Pool, temporaries, mostCalls, mostFrames, mostThreads, frames, begin, functionOf, blockIn, blockOf, children, trees, poolWords, wordsOf, isPool}
+use Rattle.model.specs.Pool.{Frame, Thread, Pool, temporaries, mostCalls, mostFrames, mostThreads, frames, begin, functionOf, blockIn, blockOf, children, trees, wordsOf, isPool}
 use Rattle.model.specs.Frames.{_>>=_, when, lookAll, eval, bind, bindAll, goTo, deque, entering, enter, callee}
 use Rattle.model.specs.Rules
 use Rattle.model.specs.Rules.{Act, by, acts, act, Result, Promotion, choice}
@@ -28,7 +28,7 @@ use Rattle.model.proofs.Guarantees.{read-limits}
 use Rattle.model.proofs.Members.{with-lt}
 use Rattle.model.proofs.Sets.{with-same, with-other}
 use Rattle.model.proofs.Valid.{Stands, IsFrame, IsOlder, Settled, Ordered, IsThread, IsPool, pool-facts, facts-pool}
-use Rattle.model.proofs.Words.{begin-frame, begin-thread, IsLent, lent-given, lent-words, words-length}
+use Rattle.model.proofs.Words.{begin-frame, begin-thread, IsLent, lent-given, lent-words}
 
 -- Q of what an option holds
 module _ {A : Type 0} (Q : A → Type 0) where
@@ -559,10 +559,6 @@ pub choice-kept : (P : Program) → Limits P → (p p′ : Pool) (kind i rule : 
 choice-kept P L p p′ kind i rule h e =
     let k : Threads P 1 mostThreads p′ = subst (Keeps P 1 mostThreads) e (choice-keeps P L p kind i (pool-facts P p h)) in
     facts-pool P p′ (record { few = k .few; each = k .each; tree = k .tree })
-
-pub choice-length : (P : Program) → Limits P → (p p′ : Pool) (kind i rule : ℕ) → isPool P p ≡ true → choice P p kind i ≡ Result.made rule p′
-    → length (wordsOf p′) ≡ poolWords
-choice-length P L p p′ kind i rule h e = words-length P p′ (choice-kept P L p p′ kind i rule h e)
 
 -- the same on words
 pub choose-lent : (s : List ℕ) (ws : List ℤ) (kind i : ℕ) {l : Lent} → lent s ws ≡ Answer.given l

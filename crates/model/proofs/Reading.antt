@@ -10,7 +10,7 @@ use native.Mathlib.Omega.{arith}
 use lib.Dec.{ltb, leb}
 use lib.ListN.{length, getD, getElem?, take}
 use Rattle.model.specs.Read.{Parsed, Parser, next, byte, many, counted}
-use Rattle.model.proofs.Facts.{ltb-true, lt-ltb, le-ltb, leb-true, le-leb, and-left, and-right}
+use Rattle.model.proofs.Facts.{ltb-true, lt-ltb, le-ltb, leb-true, and-left, and-right}
 
 -- one answer is not two
 pub bad-ok : {A B : Type 0} {place k : ℕ} {a : A} → _≡_ {A = Parsed A} (Parsed.bad place) (Parsed.ok a k) → B
@@ -66,10 +66,6 @@ byte-ok lo hi s at n k e = go (ltb at (length s)) (leb lo v && leb v hi) refl re
         record { inside = ltb-true at (length s) p; low = omega arith; high = omega arith; is = is; behind = sym (ok-offset e) }
     go true false p q e = bad-ok e
     go false c p q e = bad-ok e
-
-pub ok-byte : (lo hi : ℕ) (s : List ℕ) (at : ℕ) → at < length s → lo ≤ getD s at 0 → getD s at 0 ≤ hi → byte lo hi s at ≡ Parsed.ok (getD s at 0) (at + 1)
-unfolding byte
-ok-byte lo hi s at i l h = rw (lt-ltb at (length s) i, le-leb lo (getD s at 0) l, le-leb (getD s at 0) hi h)
 
 pub bad-byte : (lo hi : ℕ) (s : List ℕ) (at : ℕ) → at < length s → (leb lo (getD s at 0) && leb (getD s at 0) hi) ≡ false → byte lo hi s at ≡ Parsed.bad at
 unfolding byte
@@ -231,11 +227,3 @@ module _ {A : Type 0} where
   unfolding offsetOf
   offset-bad (Parsed.ok a k) e = bad-ok (sym e)
   offset-bad (Parsed.bad place) e = cc
-
-module _ {A : Type 0} (p : Parser A) (s : List ℕ) (at n : ℕ) where
-  pub skip-goes : {k : ℕ} → 0 < n → offsetOf (p s at) ≡ Parsed.ok tt k → offsetOf (many p n s at) ≡ offsetOf (many p (n - 1) s k)
-  skip-goes h e = ap offsetOf (goes-down p s at n h (offset-ok (p s at) e .1)) ∙ offset-joined _ _
-
-  pub skip-fails : {place : ℕ} → 0 < n → offsetOf (p s at) ≡ Parsed.bad place → offsetOf (many p n s at) ≡ Parsed.bad place
-  unfolding offsetOf
-  skip-fails h e = ap offsetOf (fails-down p s at n h (offset-bad (p s at) e))

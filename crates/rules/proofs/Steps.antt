@@ -1,5 +1,5 @@
 -- What the code's acts come to: each rule, from what the code read, looked up and entered.
-use Prim.Native.Nat.{ℕ, zero, suc, _+_, _-_, _^_, _≤_, _<_, min}
+use Prim.Native.Nat.{ℕ, zero, suc, _+_, _-_, _≤_, _<_, min}
 use mathlib.Core.Path.{_≡_, refl, sym, ap, subst, subst⁻¹, _∙_}
 use mathlib.Core.Bool.{Bool, true, false, not, cond, true≢false}
 use mathlib.Core.Option.{Option, none, some}
@@ -11,7 +11,7 @@ use mir.Val.{SFits, toZ, ofZ}
 use mir.Facts.{toZ-ofZ}
 use mir.Syntax.{w32}
 use lib.Dec.{eqb, ltb}
-use lib.IntN.{ℤ, pos, negsuc}
+use lib.IntN.{ℤ, pos}
 use lib.ListN.{length, getElem?, take}
 use Rattle.model.specs.Numbers as No
 use Rattle.model.specs.Lists.{Snoc, snoc, unsnoc, equal}
@@ -25,6 +25,7 @@ use Rattle.model.specs.Rules.{by, acts, stmt, goto, branch, if, call, return, s
 use Rattle.model.specs.Limits.{InStatement}
 use Rattle.model.proofs.Facts.{each-at, past-at}
 use Rattle.model.proofs.Guarantees as Guarantees
+use Rattle.words.proofs.Wrapping.{zero-test}
 use Rattle.places.specs.declared.Place.the-variants.{At, Nowhere}
 use Rattle.places.specs.Places.{spawnIn, Places, FindsBlock, FindsSpawn}
 use Rattle.bytes.specs.Bytes.{byteAt, past}
@@ -124,24 +125,19 @@ module _ (s places : List ℕ) (m : Frame) (at : ℕ) (out : List ℤ) (r : Acte
         let (B, w, _) = d s P p in
         rw h (record { act = sym (rw (given t, callee-is P p, not-false there u, ← q, w)); sound = tt })
 
--- a value's bits are 0 exactly if it is
-pub bits-zero : (v : ℤ) → SFits w32 v → ofZ w32 v ≡ 0 → same v (pos 0) ≡ true
-bits-zero (pos n) f e = eq-eqb n 0 e
-bits-zero (negsuc n) f e = absurd (let h : n < 2 ^ 31 = f .sfits in omega arith)
-
-pub bits-some : (v : ℤ) → (ofZ w32 v ≡ 0 → ⊥) → same v (pos 0) ≡ false
-bits-some (pos n) h = ne-eqb n 0 h
-bits-some (negsuc n) h = refl
-
 -- then, else
-module _ (s places : List ℕ) (f b c : ℕ) (v : ℤ) (r : Acted) where
-  pub branch-else : same v (pos 0) ≡ true → Enters s places f c 0 Enter No.else r → Rule.Branch s places f b c v r
+module _ (s places : List ℕ) (f b c : ℕ) (v : ℤ) (r : Acted) (g : SFits w32 v) where
+  pub branch-else : ofZ w32 v ≡ 0 → Enters s places f c 0 Enter No.else r → Rule.Branch s places f b c v r
   unfolding branch
-  branch-else t d P p m h out = rw t (entered s m out r P No.else f c 0 h refl (d P p))
+  branch-else t d P p m h out =
+      let e : same v (pos 0) ≡ true = sym (zero-test v g) ∙ eq-eqb (ofZ w32 v) 0 t in
+      rw e (entered s m out r P No.else f c 0 h refl (d P p))
 
-  pub branch-then : same v (pos 0) ≡ false → Enters s places f b 0 Enter No.then r → Rule.Branch s places f b c v r
+  pub branch-then : (ofZ w32 v ≡ 0 → ⊥) → Enters s places f b 0 Enter No.then r → Rule.Branch s places f b c v r
   unfolding branch
-  branch-then t d P p m h out = rw t (entered s m out r P No.then f b 0 h refl (d P p))
+  branch-then t d P p m h out =
+      let e : same v (pos 0) ≡ false = sym (zero-test v g) ∙ ne-eqb (ofZ w32 v) 0 t in
+      rw e (entered s m out r P No.then f b 0 h refl (d P p))
 
 -- what an evaluation says where the flag is down, and up
 module _ {A : Type 0} (ok : Bool) (a : A) {o : Option A} (e : optional ok a ≡ o) where

@@ -14,11 +14,12 @@ use Rattle.model.specs.Syntax.{Program}
 use Rattle.model.specs.Pool.{Frame, Thread, Pool, mostThreads, frames, stack}
 use Rattle.model.specs.Frames.{deque}
 use Rattle.model.specs.Rules.{Result, child, promoting, spawned, promote}
-use Rattle.model.proofs.Facts.{at-below, ltb-true, ltb-false, lt-ltb, le-ltb}
+use Rattle.model.proofs.Facts.{at-below, lt-ltb, le-ltb}
 use Rattle.frames.specs.Frame.{Small}
 use Rattle.frames.specs.Held.{startOf, ThreadAt, FrameAt}
 use Rattle.frames.specs.Edits.{threadsIn, framesIn}
 use Rattle.frames.specs.InPlace.{frameAt, newestAt}
+use Rattle.frames.proofs.Pools.{frame-there}
 use Rattle.frames.proofs.Steps.{frames-counted, threads-counted}
 use Rattle.rules.specs.declared.Acted.{Acted}
 use Rattle.rules.specs.declared.Does.{Does}
@@ -121,24 +122,6 @@ Passed ws i j =
     (s places : List ℕ) (P : Program) (a : Pool) (t : Thread) (b : Pool) → Known s places ws i P a t b
     → (K₁ K₂ : List Frame) → frames t ≡ K₁ ++ K₂ → length K₂ ≡ j → Each Done K₂
 
--- a list around its item j, counted from the end
-pub record Split {A : Type 0} (xs : List A) (j : ℕ) : Type 0 where
-  pub front : List A
-  pub item : A
-  pub back : List A
-  pub is : xs ≡ front ++ item ∷ back
-  pub place : length back ≡ j
-
-pub split : {A : Type 0} (xs : List A) (j : ℕ) → j < length xs → Split xs j
-split [] j h = absurd (omega arith)
-split {A} (x ∷ xs) j h = go (ltb j (length xs)) refl (λ l. split xs j l)
-  where
-    go : (b : Bool) → ltb j (length xs) ≡ b → (j < length xs → Split xs j) → Split (x ∷ xs) j
-    go true e r =
-        let s = r (ltb-true j (length xs) e) in
-        record { front = x ∷ s .front; item = s .item; back = s .back; is = ap {B = List A} (λ l. x ∷ l) (s .is); place = s .place }
-    go false e r = record { front = []; item = x; back = xs; is = refl; place = omega (arith, ltb-false j (length xs) e) }
-
 pub passed-none : (ws : List ℤ) (i : ℕ) → Passed ws i 0
 passed-none ws i s places P a t b h K₁ [] e l = tt
 passed-none ws i s places P a t b h K₁ (k ∷ K₂) e l = absurd (omega arith)
@@ -159,17 +142,16 @@ module _ {ws : List ℤ} {i j k n p : ℕ} (w : k ≡ startOf i j) (c : n ≡ le
 
   pub finds-holder : {π : ℕ} → getElem? (frameAt ws k .calls) p ≡ some π → j < framesIn ws i → FindsOldest ws i (record { ok = true; at = k; call = π })
   finds-holder {π} y l s places P a t b h =
-      let z = split (frames t) j (omega (arith, frames-counted (h .thread))) in
-      let x : FrameAt t j (z .front) (z .item) (z .back) = record { is = z .is; place = z .place } in
+      let (z, x) = frame-there t j (omega (arith, frames-counted (h .thread))) in
       let u : getElem? (frameAt ws k .calls) (frameAt ws k .promoted) ≡ some π = ap (getElem? (frameAt ws k .calls)) (sym q) ∙ y in
       record {
         number = j;
         place = w;
         frame = z .item;
-        newer = z .front;
-        older = z .back;
+        newer = z .before;
+        older = z .behind;
         at = x;
-        done = older-done h (z .front) (z .item) (z .back) x;
+        done = older-done h (z .before) (z .item) (z .behind) x;
         call = subst (λ (m : Frame). getElem? (m .calls) (m .promoted) ≡ some π) (frame-is h w x) u;
       }
 

@@ -4,14 +4,14 @@ use native.Mathlib.Omega.{arith}
 use native.Mathlib.Nat.{zero-add}
 use mathlib.Core.Path.{_≡_, refl, sym, ap, _∙_}
 use mathlib.Core.Bool.{Bool, true, false}
-use borrow.Author.Tests.{ltb-true, ltb-false, lt-ltb, le-ltb}
-use lib.Dec.{ltb}
+use borrow.Author.Tests.{ltb-true, ltb-false, lt-ltb, le-ltb, ne-eqb}
+use lib.Dec.{eqb, ltb}
 use lib.IntN.{ℤ, pos, negsuc, subℕ, _+ℤ_, _-ℤ_, negℤ, +ℤ-idl}
 use lib.Signed.{ltZ}
 use mir.Syntax.{w32}
 use mir.Val.{toZ, ofZ, SFits}
 use mir.Facts.{toZ-ofZ, toZ-pos}
-use Rattle.model.specs.Values.{low, wrap, plus, minus}
+use Rattle.model.specs.Values.{low, wrap, plus, minus, same}
 
 -- a difference of two numbers, by their order
 pub less-sub : (a b : ℕ) → a < b → subℕ a b ≡ negsuc (b - suc a)
@@ -116,3 +116,11 @@ subtracted a b r p q m n f g h e₁ e₂ e₃ e₄ e₅ =
 pub zero-minus : (m r : ℤ) → SFits w32 m → SFits w32 r → r ≡ wrap (pos 0 -ℤ toZ w32 (ofZ w32 m)) → toZ w32 (ofZ w32 r) ≡ minus m
 unfolding minus
 zero-minus m r f h e = toZ-ofZ h ∙ e ∙ ap wrap (ap (λ (z : ℤ). pos 0 -ℤ z) (toZ-ofZ f) ∙ +ℤ-idl (negℤ m))
+
+-- a word's bits are 0 where it is
+not-zero : (n : ℕ) → SFits w32 (negsuc n) → ofZ w32 (negsuc n) ≡ 0 → ⊥
+not-zero n f e = let h : n < 2 ^ 31 = f .sfits in omega arith
+
+pub zero-test : (w : ℤ) → SFits w32 w → eqb (ofZ w32 w) 0 ≡ same w (pos 0)
+zero-test (pos n) f = refl
+zero-test (negsuc n) f = ne-eqb (ofZ w32 (negsuc n)) 0 (not-zero n f)
