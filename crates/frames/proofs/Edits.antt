@@ -11,7 +11,8 @@ use Rattle.model.specs.Lists.{Each, pad, concat}
 use Rattle.model.specs.Sets.{below}
 use Rattle.model.specs.Pool.{Frame, Thread, Pool, mostFrames, frameWords, threadWords, frames, begin, wordsOfFrame, wordsOfThread, wordsOf}
 use Rattle.model.proofs.Facts.{each-right}
-use Rattle.model.proofs.Words.{FrameFits, ThreadFits, PoolFits, each-reverse, frame-length, thread-length}
+use Rattle.model.specs.Valid.{FrameFits, ThreadFits, PoolFits}
+use Rattle.model.proofs.Words.{each-reverse, frame-length, thread-length}
 use Rattle.words.specs.Runs.{pasted, cleared}
 use Rattle.frames.specs.Held.{startOf, ThreadAt, FrameAt}
 use Rattle.frames.proofs.Parts.{zeros, paste-parts, paste-all, cleared-pasted}

@@ -9,7 +9,8 @@ use lib.Seq.{set-at, getD-at}
 use Rattle.model.specs.Lists.{Each, pad, concat}
 use Rattle.model.specs.Pool.{Frame, Thread, Pool, mostFrames, mostThreads, frameWords, threadWords, frames, wordsOfFrame, wordsOfThread, wordsOf}
 use Rattle.model.proofs.Facts.{each-map, each-append, each-left, each-right}
-use Rattle.model.proofs.Words.{FrameFits, ThreadFits, PoolFits, Long, length-concat, each-reverse, frame-length, thread-length}
+use Rattle.model.specs.Valid.{FrameFits, ThreadFits, PoolFits}
+use Rattle.model.proofs.Words.{Long, length-concat, each-reverse, frame-length, thread-length}
 use Rattle.words.specs.Runs.{pasted}
 use Rattle.frames.proofs.Parts.{zeros, paste-within, read-within}
 

@@ -10,7 +10,7 @@ use Rattle.model.specs.Syntax.{Program}
 use Rattle.model.specs.Limits.{InBlock, InFunction, Limits}
 use Rattle.model.specs.Pool.{Frame, Thread, frames, functionOf}
 use Rattle.model.proofs.Facts.{each-map, each-at, at-below}
-use Rattle.model.proofs.Valid.{IsFrame, IsThread}
+use Rattle.model.specs.Valid.{IsFrame, IsThread}
 use Rattle.model.proofs.Words.{frame-fits}
 use Rattle.frames.specs.Frame.{Small}
 use Rattle.frames.specs.Held.{FrameAt}

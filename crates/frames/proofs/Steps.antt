@@ -10,7 +10,8 @@ use mir.Syntax.{w32}
 use mir.Val.{ofZ}
 use Rattle.model.specs.Lists.{concat}
 use Rattle.model.specs.Pool.{Frame, Thread, Pool, mostFrames, mostThreads, frameWords, threadWords, poolWords, frames, begin, started, wordsOfFrame, wordsOfThread, wordsOf}
-use Rattle.model.proofs.Words.{FrameFits, ThreadFits, frame-length, thread-length}
+use Rattle.model.specs.Valid.{FrameFits, ThreadFits}
+use Rattle.model.proofs.Words.{frame-length, thread-length}
 use Rattle.words.specs.Runs.{pasted, moved, cleared}
 use Rattle.frames.specs.declared.Frame as Code
 use Rattle.frames.specs.Held.{startOf, bitsAt, ThreadAt}

@@ -17,7 +17,8 @@ use Rattle.model.specs.Pool.{Frame, mostCalls, temporaries, frameWords, begin, 
 use Rattle.model.specs.Frames.{goTo, bind, deque}
 use Rattle.model.proofs.Facts.{each-append}
 use Rattle.model.proofs.Members.{with-lt}
-use Rattle.model.proofs.Words.{FrameFits, frame-length}
+use Rattle.model.specs.Valid.{FrameFits}
+use Rattle.model.proofs.Words.{frame-length}
 use Rattle.words.specs.Runs.{pasted}
 use Rattle.words.proofs.Sets.{bind-with}
 use Rattle.frames.specs.Held.{bitsAt}

@@ -8,7 +8,8 @@ use lib.ListN.{length, set, length-append}
 use Rattle.model.specs.Lists.{Each, concat}
 use Rattle.model.specs.Pool.{Thread, Pool, mostThreads, threadWords, wordsOfThread, wordsOf}
 use Rattle.model.proofs.Facts.{each-append}
-use Rattle.model.proofs.Words.{ThreadFits, thread-length}
+use Rattle.model.specs.Valid.{ThreadFits}
+use Rattle.model.proofs.Words.{thread-length}
 use Rattle.words.specs.Runs.{pasted, moved, cleared}
 use Rattle.frames.specs.Held.{ThreadAt}
 use Rattle.frames.proofs.Parts.{zeros, gap-opened, gap-closed}

@@ -15,7 +15,8 @@ use mir.Val.{Fits, SFits, toZ, ofZ}
 use mir.Facts.{toZ-pos, toZ-ofZ}
 use Rattle.model.specs.Lists.{Each, pad}
 use Rattle.model.specs.Pool.{Frame, mostFrames, mostThreads, wordsOfFrame}
-use Rattle.model.proofs.Words.{FrameFits, length-pad}
+use Rattle.model.specs.Valid.{FrameFits}
+use Rattle.model.proofs.Words.{length-pad}
 use Rattle.words.specs.Runs.{pasted}
 use Rattle.frames.specs.Held.{startOf, bitsAt, bytesFrom}
 use Rattle.frames.specs.declared.Frame as Code

@@ -4,7 +4,7 @@ use mathlib.Core.Path.{_≡_}
 use mathlib.Core.List.{List, [], _∷_}
 use lib.IntN.{ℤ}
 use Rattle.model.specs.Pool.{Frame, Thread, Pool, mostFrames, mostThreads, threadWords, wordsOfThread}
-use Rattle.model.proofs.Words.{ThreadFits}
+use Rattle.model.specs.Valid.{ThreadFits}
 use Rattle.words.specs.Runs.{pasted}
 use Rattle.frames.specs.declared.Frame as Code
 use Rattle.frames.specs.Frame.{modelOf}

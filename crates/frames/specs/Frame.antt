@@ -7,7 +7,7 @@ use lib.Dec.{ltb}
 use lib.IntN.{ℤ, pos}
 use lib.ListN.{length, take}
 use Rattle.model.specs.Lists.{Each, pad}
-use Rattle.model.proofs.Words.{FrameFits}
+use Rattle.model.specs.Valid.{FrameFits}
 use Rattle.words.specs.Runs.{pasted}
 use Rattle.model.specs.Pool as Pool
 use Rattle.frames.specs.declared.Frame.{Frame}

@@ -7,7 +7,7 @@ use lib.ListN.{length, getD}
 use mir.Syntax.{w32}
 use mir.Val.{ofZ}
 use Rattle.model.specs.Pool.{Frame, Thread, Pool, frameWords, threadWords, frames, wordsOf}
-use Rattle.model.proofs.Words.{PoolFits}
+use Rattle.model.specs.Valid.{PoolFits}
 
 -- frame j of thread i begins here, oldest first
 abbrev pub startOf : ℕ → ℕ → ℕ

@@ -15,8 +15,9 @@ use Rattle.model.specs.Syntax.{Block, Function, Program}
 use Rattle.model.specs.Limits.{InFunction, InBlock, Limits}
 use Rattle.model.specs.Pool.{Frame, frameWords, wordsOfFrame, wordAt, countAt, frameOf, sameWords, functionOf, blockIn, blank}
 use Rattle.model.proofs.Facts.{true-false, and-left, and-right, both-and, each-at, at-below, below-at, leb-true, le-leb, not-true, not-false}
-use Rattle.model.proofs.Valid.{IsFrame, frame-facts, facts-frame, blank-facts, facts-blank}
-use Rattle.model.proofs.Words.{FrameFits, same-words, same-words-refl}
+use Rattle.model.specs.Valid.{IsFrame, FrameFits}
+use Rattle.model.proofs.Valid.{frame-facts, facts-frame, blank-facts, facts-blank}
+use Rattle.model.proofs.Words.{same-words, same-words-refl}
 use Rattle.places.specs.Places.{spawnIn}
 use Rattle.judge.specs.Judged.{plain, num, isZero, goodFrame, reaches, there, isCall}
 use Rattle.judge.proofs.Bools.{same-test, fails, split, zeros-all, all-zeros, small, small-number, plain-of}

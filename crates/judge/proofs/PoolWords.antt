@@ -12,7 +12,8 @@ use Rattle.model.specs.Lists.{all, Each, pad}
 use Rattle.model.specs.Syntax.{Program}
 use Rattle.model.specs.Pool.{mostThreads, threadWords, poolWords, frames, wordsOfThread, wordsOf, runs, wordAt, countAt, threadOf, poolOf, sameWords, children, trees, arePool}
 use Rattle.model.proofs.Facts.{true-false, and-left, and-right, both-and, lt-ltb, eqb-true}
-use Rattle.model.proofs.Valid.{IsThread, pool-facts, facts-pool}
+use Rattle.model.specs.Valid.{IsThread}
+use Rattle.model.proofs.Valid.{pool-facts, facts-pool}
 use Rattle.model.proofs.Words.{same-words-refl, valid-words, valid-pool, words-length}
 use Rattle.judge.specs.Judged.{num, isZero, goodThread, forest}
 use Rattle.judge.proofs.Bools.{small, small-number, plain-of}

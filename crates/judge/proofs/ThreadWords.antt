@@ -14,8 +14,9 @@ use Rattle.model.specs.Values.{number}
 use Rattle.model.specs.Syntax.{Program}
 use Rattle.model.specs.Pool.{Frame, Thread, mostFrames, frameWords, threadWords, frames, begin, wordsOfFrame, wordsOfThread, runs, wordAt, countAt, frameOf, stack, threadOf, sameWords, children}
 use Rattle.model.proofs.Facts.{and-left, and-right, both-and, or-right, each-map, eqb-true, eqb-false, eq-eqb, ne-eqb}
-use Rattle.model.proofs.Valid.{IsFrame, IsOlder, IsThread, Settled, Ordered, thread-facts, facts-thread}
-use Rattle.model.proofs.Words.{FrameFits, ThreadFits, frame-length, thread-length, same-words, same-words-refl}
+use Rattle.model.specs.Valid.{IsFrame, IsOlder, Settled, Ordered, IsThread, FrameFits, ThreadFits}
+use Rattle.model.proofs.Valid.{thread-facts, facts-thread}
+use Rattle.model.proofs.Words.{frame-length, thread-length, same-words, same-words-refl}
 use Rattle.judge.specs.Judged.{num, isZero, goodFrame, goodThread, lasts, fine, promotions}
 use Rattle.judge.proofs.Bools.{small, small-number, plain-of}
 use Rattle.judge.proofs.FrameWords.{numbered, good-same, good-frame, frame-good, frame-fits}

@@ -27,7 +27,8 @@ use Rattle.model.proofs.Facts.{refused-given, ltb-true, ltb-false, eqb-
 use Rattle.model.proofs.Guarantees.{read-limits}
 use Rattle.model.proofs.Members.{with-lt}
 use Rattle.model.proofs.Sets.{with-same, with-other}
-use Rattle.model.proofs.Valid.{Stands, IsFrame, IsOlder, Settled, Ordered, IsThread, IsPool, pool-facts, facts-pool}
+use Rattle.model.specs.Valid.{Stands, IsFrame, IsOlder, Settled, Ordered, IsThread, IsPool}
+use Rattle.model.proofs.Valid.{pool-facts, facts-pool}
 use Rattle.model.proofs.Words.{begin-frame, begin-thread, IsLent, lent-given, lent-words}
 
 -- Q of what an option holds

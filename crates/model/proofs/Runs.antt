@@ -27,7 +27,7 @@ use Rattle.model.specs.Calls.{Choice, check, start, choose, values}
 
 -- every definition that a run computes with
 unfoldable pub all : Type 0
-unfolding Answers.numberOf Answers.with Lists.all Lists.equal Lists.unsnoc Lists.pad Lists.concat Values.low Values.wrap Values.plus Values.minus Values.less Sets.has Sets.with Sets.withAll Sets.within Sets.below Syntax.usesAtom Syntax.uses Read.next Read.byte Read.many Read.counted Read.pick Read.name Read.half Read.word Read.temporary Read.arguments Read.value Read.variable Read.atom Read.unary Read.binary Read.expression Read.statement Read.goto Read.if Read.call Read.return Read.spork Read.spoin Read.transfer Read.head Read.block Read.spawnCall Read.function Read.program Read.lengthField Read.sized Read.whole Read.read Tests.or Tests.ofGiven Tests.ofEach Tests.fault WellFormed.env Check.bound Check.takes Check.nests Check.scoped Check.transfer Check.code Check.fresh Check.nested Check.isEntry Check.block Check.spawn Check.ofBlocks Check.ofFunctions Check.ofMain Check.tests Check.at Check.firstFault Check.judge Pool.begin Pool.wordsOfFrame Pool.wordsOfThread Pool.wordsOf Pool.runs Pool.wordAt Pool.countAt Pool.frameOf Pool.stack Pool.threadOf Pool.poolOf Pool.sameWords Pool.functionOf Pool.blockIn Pool.blockOf Pool.blank Pool.inBlock Pool.inFunction Pool.isFrame Pool.isOlder Pool.settled Pool.ordered Pool.isThread Pool.children Pool.trees Pool.isPool Pool.arePool Pool.started Frames.when Frames.look Frames.lookAll Frames.evalAtom Frames.eval Frames.bind Frames.bindAll Frames.goTo Frames.deque Frames.entering Frames.enter Frames.callee Rules.by Rules.acts Rules.stmt Rules.goto Rules.branch Rules.if Rules.call Rules.return Rules.spork Rules.closing Rules.spoin Rules.transfer Rules.coming Rules.act Rules.returned Rules.ended Rules.onTop Rules.popping Rules.joining Rules.joins Rules.apply Rules.step Rules.promoteIn Rules.orElse Rules.oldest Rules.child Rules.spawned Rules.promoting Rules.promote Rules.behind Rules.onThread Rules.choice Rules.mainValues Calls.check Calls.measured Calls.valid Calls.lent Calls.starting Calls.start Calls.made Calls.chosen Calls.choose Calls.goOn Calls.run Calls.stopped Calls.reported Calls.scheduled Calls.schedule Calls.values
+unfolding Answers.numberOf Answers.with Lists.all Lists.equal Lists.unsnoc Lists.pad Lists.concat Values.low Values.wrap Values.plus Values.minus Values.less Sets.has Sets.with Sets.withAll Sets.within Sets.below Syntax.usesAtom Syntax.uses Read.next Read.byte Read.many Read.counted Read.pick Read.name Read.half Read.word Read.temporary Read.arguments Read.value Read.variable Read.atom Read.unary Read.binary Read.expression Read.statement Read.goto Read.if Read.call Read.return Read.spork Read.spoin Read.transfer Read.head Read.block Read.spawnCall Read.function Read.program Read.lengthField Read.sized Read.whole Read.read Tests.or Tests.ofGiven Tests.ofEach Tests.fault WellFormed.env Check.bound Check.takes Check.nests Check.scoped Check.transfer Check.code Check.fresh Check.nested Check.isEntry Check.block Check.spawn Check.ofBlocks Check.ofFunctions Check.ofMain Check.tests Check.at Check.firstFault Check.judge Pool.begin Pool.wordsOfFrame Pool.wordsOfThread Pool.wordsOf Pool.runs Pool.wordAt Pool.countAt Pool.frameOf Pool.stack Pool.threadOf Pool.poolOf Pool.sameWords Pool.functionOf Pool.blockIn Pool.blockOf Pool.blank Pool.inBlock Pool.inFunction Pool.isFrame Pool.isOlder Pool.settled Pool.ordered Pool.isThread Pool.children Pool.trees Pool.isPool Pool.arePool Pool.started Frames.when Frames.look Frames.lookAll Frames.evalAtom Frames.eval Frames.bind Frames.bindAll Frames.goTo Frames.deque Frames.entering Frames.enter Frames.callee Rules.by Rules.acts Rules.stmt Rules.goto Rules.branch Rules.if Rules.call Rules.return Rules.spork Rules.closing Rules.spoin Rules.transfer Rules.coming Rules.act Rules.returned Rules.ended Rules.onTop Rules.popping Rules.joining Rules.joins Rules.apply Rules.step Rules.promoteIn Rules.orElse Rules.oldest Rules.child Rules.spawned Rules.promoting Rules.promote Rules.behind Rules.onThread Rules.choice Rules.mainValues Calls.check Calls.measured Calls.valid Calls.lent Calls.lentWords Calls.starting Calls.start Calls.made Calls.chosen Calls.choose Calls.goOn Calls.run Calls.stopped Calls.reported Calls.scheduled Calls.schedule Calls.values
 all = Unit {0}
 
 -- the answers to choices put one after another, each with the words as the one before left them; and then main's values

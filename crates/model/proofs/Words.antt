@@ -21,20 +21,8 @@ use Rattle.model.specs.Limits.{InFunction, Limits}
 use Rattle.model.specs.Calls.{read, Lent, measured, valid, lent}
 use Rattle.model.proofs.Facts.{refused-given, ltb-true, ltb-false, below-at, each-at, eqb-true, eq-eqb, true-false, and-left, and-right, both-and, each-map, each-append}
 use Rattle.model.proofs.Members.{has-below, below-lt}
-use Rattle.model.proofs.Valid.{Blank, IsFrame, IsThread, IsPool, pool-facts, facts-pool, same-true, same-refl}
-
--- lists that are of the layout's sizes
-pub record FrameFits (k : Frame) : Type 0 where
-  pub calls : length (k .calls) ≤ mostCalls
-  pub values : length (k .values) ≡ temporaries
-
-pub record ThreadFits (t : Thread) : Type 0 where
-  pub few : length (frames t) ≤ mostFrames
-  pub each : Each FrameFits (frames t)
-
-pub record PoolFits (p : Pool) : Type 0 where
-  pub few : length p ≤ mostThreads
-  pub each : Each ThreadFits p
+use Rattle.model.specs.Valid.{Blank, IsFrame, IsThread, IsPool, FrameFits, ThreadFits, PoolFits}
+use Rattle.model.proofs.Valid.{pool-facts, facts-pool, same-true, same-refl}
 
 module _ {P : Program} where
   pub frame-fits : {k : Frame} → IsFrame P k → FrameFits k

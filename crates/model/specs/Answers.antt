@@ -21,3 +21,8 @@ pub data Answer (A : Type 0) : Type 0 where
 unfoldable pub with : {A B : Type 0} → Answer A → (A → Answer B) → Answer B
 with (Answer.given a) k = k a
 with (Answer.refused r) k = Answer.refused r
+
+-- whether something is given, and not what
+unfoldable pub outcome : {A : Type 0} → Answer A → Answer (Unit {0})
+outcome (Answer.given a) = Answer.given tt
+outcome (Answer.refused r) = Answer.refused r

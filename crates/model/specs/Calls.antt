@@ -44,13 +44,17 @@ valid P ws = cond (arePool P ws) (Answer.given (record { table = P; pool = poolO
 unfoldable pub lent : List ℕ → List ℤ → Answer Lent
 lent s ws = with (read s) λ P. with (measured ws) λ _. valid P ws
 
+-- a table, and as many words as a pool has
+unfoldable pub lentWords : List ℕ → List ℤ → Answer (Unit {0})
+lentWords s ws = with (read s) λ P. measured ws
+
 -- start: 1 to 3, 12; any table that reads, and words that hold anything
 unfoldable pub starting : List ℤ → Answer (Unit {0}) → Called (Unit {0})
 starting ws (Answer.given u) = record { answer = Answer.given u; after = wordsOf started }
 starting ws (Answer.refused r) = record { answer = Answer.refused r; after = ws }
 
 unfoldable pub start : List ℕ → List ℤ → Called (Unit {0})
-start s ws = starting ws (with (read s) λ P. measured ws)
+start s ws = starting ws (lentWords s ws)
 
 -- a single choice: 1 to 3, 12, 13, 14 to 21, or the rule. A refusal leaves the words as they were
 unfoldable pub made : List ℤ → Result → Called ℕ

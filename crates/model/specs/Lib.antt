@@ -10,6 +10,7 @@ pub mod WellFormed
 pub mod Tests
 pub mod Check
 pub mod Pool
+pub mod Valid
 pub mod Frames
 pub mod Rules
 pub mod Calls

@@ -17,7 +17,7 @@ use Rattle.model.specs.Limits.{Limits}
 use Rattle.model.specs.Pool.{Thread, Pool, frames, mostThreads}
 use Rattle.model.specs.Rules.{Result, ended, step, promote, behind, onThread, choice}
 use Rattle.model.proofs.Facts.{none-some, some-injective}
-use Rattle.model.proofs.Valid.{IsThread}
+use Rattle.model.specs.Valid.{IsThread}
 use Rattle.safety.proofs.Typing.{Typed, promised, Forest}
 use Rattle.safety.proofs.Acts.{Ordinary}
 use Rattle.safety.proofs.Steps.{Stepped, steps}

@@ -24,7 +24,8 @@ use Rattle.model.specs.Rules.{Act, Result, act}
 use Rattle.model.specs.Calls as Calls
 use Rattle.model.specs.Calls.{Lent, lent}
 use Rattle.model.proofs.Facts.{refused-given, none-some, equal-same, each-at, ltb-false}
-use Rattle.model.proofs.Valid.{IsThread, pool-facts}
+use Rattle.model.specs.Valid.{IsThread}
+use Rattle.model.proofs.Valid.{pool-facts}
 use Rattle.model.proofs.Words.{lent-given}
 use Rattle.model.proofs.Kept.{OnSome, on-bind, on-is, on-when, choose-kept}
 use Rattle.safety.specs.NeverJams.{At, Join}

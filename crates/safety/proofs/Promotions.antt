@@ -14,7 +14,7 @@ use Rattle.model.specs.Pool.{Frame, Thread, frames, begin, functionOf}
 use Rattle.model.specs.Frames.{_>>=_, deque}
 use Rattle.model.specs.Rules.{Result, Promotion, promoteIn, above, orElse, oldest, child, spawned, promoting, promote}
 use Rattle.model.proofs.Facts.{none-some, some-injective, each-at, at-below}
-use Rattle.model.proofs.Valid.{Settled, Ordered, IsThread}
+use Rattle.model.specs.Valid.{Settled, Ordered, IsThread}
 use Rattle.model.proofs.Sets.{part-refl, part-each}
 use Rattle.safety.proofs.Typing.{Opens, Runs, Callers, Typed, promise, owed, own, promised, Forest}
 use Rattle.safety.proofs.Owed.{owed-more, promise-is}

@@ -19,7 +19,7 @@ use Rattle.model.specs.Frames.{enter}
 use Rattle.model.specs.Rules as Rules
 use Rattle.model.specs.Rules.{Act, Result, act, returned, onTop, popping, joining, joins, apply, step}
 use Rattle.model.proofs.Facts.{none-some, some-injective}
-use Rattle.model.proofs.Valid.{IsThread}
+use Rattle.model.specs.Valid.{IsThread}
 use Rattle.safety.proofs.Typing.{Opens, Runs, Callers, Typed, promised, Forest}
 use Rattle.safety.proofs.Frames.{enters}
 use Rattle.safety.proofs.Acts.{Ordinary, Does, does}

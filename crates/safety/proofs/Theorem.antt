@@ -9,7 +9,7 @@ use Rattle.model.specs.Numbers as No
 use Rattle.model.specs.Answers.{Refusal, Answer, with}
 use Rattle.model.specs.Pool.{poolWords, wordsOf, begin, started}
 use Rattle.model.specs.Calls as Calls
-use Rattle.model.specs.Calls.{Lent, Called, lent, check, measured, starting, start}
+use Rattle.model.specs.Calls.{Lent, Called, lent, check, measured, lentWords, starting, start}
 use Rattle.model.proofs.Facts.{eq-eqb}
 use Rattle.model.proofs.Accepted.{check-wf}
 use Rattle.model.proofs.Guarantees.{read-limits}
@@ -29,7 +29,7 @@ accepted s h =
 -- the start: one thread at main's entry
 starts : {s : List ℕ} (T : Table s) (ws : List ℤ) → length ws ≡ poolWords →
     start s ws ≡ record { answer = Answer.given tt; after = wordsOf started }
-unfolding start starting with measured
+unfolding start starting lentWords with measured
 starts T ws n = rw (T .reads, eq-eqb (length ws) poolWords n)
 
 good-start : {s : List ℕ} (T : Table s) → Good T (wordsOf started)

@@ -19,7 +19,8 @@ use Rattle.model.specs.Rules.{Result, ended, step, onThread, choice, mainValues
 use Rattle.model.specs.Calls as Calls
 use Rattle.model.specs.Calls.{Lent, Called, lent, read, made}
 use Rattle.model.proofs.Facts.{refused-given, given-injective}
-use Rattle.model.proofs.Valid.{IsThread, pool-facts}
+use Rattle.model.specs.Valid.{IsThread}
+use Rattle.model.proofs.Valid.{pool-facts}
 use Rattle.model.proofs.Words.{lent-words}
 use Rattle.model.proofs.Kept.{choice-kept, choose-lent}
 use Rattle.model.proofs.Guarantees.{read-limits}

@@ -14,7 +14,8 @@ use Rattle.model.specs.Pool.{Thread, Pool, mostThreads, wordsOf, trees, isPool}
 use Rattle.model.specs.Rules.{Result, step, promote, onThread, choice}
 use Rattle.model.specs.Calls.{made}
 use Rattle.model.proofs.Facts.{true-false}
-use Rattle.model.proofs.Valid.{IsPool, pool-facts}
+use Rattle.model.specs.Valid.{IsPool}
+use Rattle.model.proofs.Valid.{pool-facts}
 use Rattle.model.proofs.Words.{pool-fits, words-valid}
 use Rattle.model.proofs.Kept.{choice-kept}
 use Rattle.places.specs.Places.{Places}

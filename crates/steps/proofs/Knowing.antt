@@ -8,7 +8,7 @@ use Rattle.model.specs.Syntax.{Program}
 use Rattle.model.specs.Pool.{Frame, Thread, Pool, frames}
 use Rattle.model.specs.Rules.{act}
 use Rattle.model.proofs.Facts.{each-right}
-use Rattle.model.proofs.Valid.{IsThread, IsPool}
+use Rattle.model.specs.Valid.{IsThread, IsPool}
 use Rattle.frames.specs.Frame.{Small}
 use Rattle.frames.specs.Held.{startOf, FrameAt}
 use Rattle.frames.specs.InPlace.{frameAt, newestAt}

@@ -15,7 +15,7 @@ use Rattle.model.specs.Pool.{Frame, Thread, Pool, mostFrames, mostThreads, fram
 use Rattle.model.specs.Rules.{Act, Result, act, ended, promote, choice}
 use Rattle.model.specs.Rules as Rules
 use Rattle.model.specs.Calls.{Called, made}
-use Rattle.model.proofs.Valid.{IsPool}
+use Rattle.model.specs.Valid.{IsPool}
 use Rattle.places.specs.Places.{Places}
 use Rattle.frames.specs.Frame.{Small}
 use Rattle.frames.specs.Held.{startOf, Held, ThreadAt, FrameAt}

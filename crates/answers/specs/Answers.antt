@@ -1,0 +1,20 @@
+-- The code's refusal and answer as the model's, with document 01's number and place.
+use mathlib.Core.Bool.{Bool, true, false}
+use Rattle.model.specs.Answers as Model
+use Rattle.answers.specs.declared.Refusal.{Refusal}
+use Rattle.answers.specs.declared.Refusal.the-variants.{Plain, Byte, Fault}
+use Rattle.answers.specs.declared.Answer.{Answer}
+use Rattle.answers.specs.declared.Answer.the-variants.{Given, Refused}
+
+abbrev pub refusalOf : Refusal → Model.Refusal
+refusalOf (Plain n) = Model.Refusal.plain n
+refusalOf (Byte at) = Model.Refusal.byte at
+refusalOf (Fault n f b) = Model.Refusal.fault n f b
+
+abbrev pub answerOf : Answer → Model.Answer (Unit {0})
+answerOf Given = Model.Answer.given tt
+answerOf (Refused r) = Model.Answer.refused (refusalOf r)
+
+abbrev pub isGiven : Answer → Bool
+isGiven Given = true
+isGiven (Refused r) = false

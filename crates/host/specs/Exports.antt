@@ -1,0 +1,67 @@
+-- What each exported function answers, as one number, and what it leaves in the memory that is lent to it.
+use Prim.Native.Nat.{ℕ}
+use mathlib.Core.Path.{_≡_}
+use mathlib.Core.Option.{Option, none, some}
+use mathlib.Core.List.{List, [], _∷_}
+use lib.IntN.{ℤ}
+use lib.ListN.{length}
+use Rattle.model.specs.Answers.{Answer}
+use Rattle.model.specs.Calls as Calls
+use Rattle.model.specs.Calls.{Called, Which}
+use Rattle.answers.specs.Coded.{given, codeOf}
+
+-- an answer that gives nothing more
+unfoldable pub done : Answer (Unit {0}) → ℕ
+done (Answer.given u) = given 0
+done (Answer.refused r) = codeOf r
+
+-- a choice's rule
+unfoldable pub ruled : Answer ℕ → ℕ
+ruled (Answer.given rule) = given rule
+ruled (Answer.refused r) = codeOf r
+
+-- the thread that can step; 8 for none
+unfoldable pub stepperOf : Answer (Option ℕ) → ℕ
+stepperOf (Answer.given (some i)) = given i
+stepperOf (Answer.given none) = given 8
+stepperOf (Answer.refused r) = codeOf r
+
+-- how many values main has; 255 while they are open
+unfoldable pub counted : Answer (Option (List ℤ)) → ℕ
+counted (Answer.given (some v̄)) = given (length v̄)
+counted (Answer.given none) = given 255
+counted (Answer.refused r) = codeOf r
+
+-- values in the place of the first words; the words behind them stay
+unfoldable pub over : List ℤ → List ℤ → List ℤ
+over [] ws = ws
+over (v ∷ v̄) [] = []
+over (v ∷ v̄) (w ∷ ws) = v ∷ over v̄ ws
+
+-- main's values are written where they are given, and nothing else is
+unfoldable pub written : Answer (Option (List ℤ)) → List ℤ → List ℤ
+written (Answer.given (some v̄)) ws = over v̄ ws
+written (Answer.given none) ws = ws
+written (Answer.refused r) ws = ws
+
+-- a call's answer as a number, and the pool's words afterwards
+pub record Gives {A : Type 0} (code : Answer A → ℕ) (c : Called A) (r : ℕ) (ws : List ℤ) : Type 0 where
+  pub number : r ≡ code (c .answer)
+  pub words : ws ≡ c .after
+
+-- the number of some right answer to which thread can step
+pub record Finds (s : List ℕ) (ws : List ℤ) (r : ℕ) : Type 0 where
+  pub answer : Answer (Option ℕ)
+  pub right : Which s ws answer
+  pub number : r ≡ stepperOf answer
+
+-- main's values: the number, and the words lent for them, before and afterwards
+pub record Values (a : Answer (Option (List ℤ))) (ws : List ℤ) (r : ℕ) (ws′ : List ℤ) : Type 0 where
+  pub number : r ≡ counted a
+  pub words : ws′ ≡ written a ws
+
+-- a list of choices: the number of its answer, how many were made, and the pool's words afterwards
+pub record Tells (c : Calls.Scheduled) (r made : ℕ) (ws : List ℤ) : Type 0 where
+  pub number : r ≡ done (c .answer)
+  pub count : made ≡ c .made
+  pub words : ws ≡ c .after
