@@ -8,7 +8,7 @@ use borrow.Author.Tests.{eq-eqb, ne-eqb, le-leb, lt-leb, leb-true}
 use lib.Dec.{leb, eqb}
 use lib.ListN.{length, getD}
 use Rattle.model.specs.Numbers as No
-use Rattle.model.specs.Answers.{Refusal, Answer}
+use Rattle.model.specs.Answers.{Refusal, Answer, outcome}
 use Rattle.model.specs.Syntax.{Program}
 use Rattle.model.specs.Read.{Parsed, byte, many, function, program, sized, lengthField, whole, read}
 use Rattle.model.proofs.Reading.{Both, next-ok, byte-ok}
@@ -18,9 +18,12 @@ use Rattle.bytes.specs.Bytes.{wordAt}
 use Rattle.bytes.proofs.Numbers.{word-at-start}
 use Rattle.places.specs.Places.{Places}
 use Rattle.model.proofs.Guarantees as Guarantees
-use Rattle.table.specs.Reading.{readingOf, outcome, PlacedBy}
+use Rattle.answers.specs.declared.Answer as Code
+use Rattle.answers.specs.declared.Answer.the-variants.{Given, Refused}
+use Rattle.answers.specs.declared.Refusal.the-variants.{Plain, Byte}
+use Rattle.answers.specs.Answers.{answerOf}
+use Rattle.table.specs.Reading.{PlacedBy, ReadAs}
 use Rattle.table.specs.declared.grammar.Skip.{Skip}
-use Rattle.table.specs.declared.Reading.{Reading}
 use Rattle.table.proofs.Marks.{kept-at}
 use Rattle.table.proofs.Placed.{placed}
 
@@ -57,33 +60,36 @@ unfolding programMarks onward
 marks-of s n k l e = rw e
 
 -- the answer and the places
-abbrev pub Answered : List ℕ → List ℕ → Reading → Type 0
-Answered s l r = (readingOf r ≡ outcome (read s)) × PlacedBy s l (read s)
+answered : (s l : List ℕ) (r : Code.Answer) (a : Answer Program) → read s ≡ a → answerOf r ≡ outcome a → PlacedBy s l a → ReadAs s l r
+answered s l r a e h p = record { answer = h ∙ ap outcome (sym e); placed = subst (PlacedBy s l) (sym e) p }
 
-answered : (s l : List ℕ) (r : Reading) (a : Answer Program) → read s ≡ a → readingOf r ≡ outcome a → PlacedBy s l a → Answered s l r
-answered s l r a e h p = (h ∙ ap outcome (sym e), subst (PlacedBy s l) (sym e) p)
-
-pub no-size : (s l : List ℕ) → sized s ≡ false → Answered s l Reading.Size
-unfolding read readingOf outcome PlacedBy
-no-size s l h = answered s l Reading.Size (Answer.refused (Refusal.plain No.size)) (simp h) refl tt
+pub no-size : (s l : List ℕ) → l ≡ nowhere → sized s ≡ false → ReadAs s l (Refused (Plain No.size))
+unfolding read outcome PlacedBy
+no-size s l o h = answered s l _ (Answer.refused (Refusal.plain No.size)) (simp h) refl o
 
 module _ (s : List ℕ) (z : sized s ≡ true) where
-  pub no-version : (l : List ℕ) → (getD s 4 0 ≡ 1 → ⊥) → Answered s l Reading.Version
-  unfolding read readingOf outcome PlacedBy
-  no-version l h = answered s l Reading.Version (Answer.refused (Refusal.plain No.version)) (simp (z, ne-eqb (getD s 4 0) 1 h)) refl tt
+  pub no-version : (l : List ℕ) → l ≡ nowhere → (getD s 4 0 ≡ 1 → ⊥) → ReadAs s l (Refused (Plain No.version))
+  unfolding read outcome PlacedBy
+  no-version l o h = answered s l _ (Answer.refused (Refusal.plain No.version)) (simp (z, ne-eqb (getD s 4 0) 1 h)) refl o
 
   module _ (v : getD s 4 0 ≡ 1) where
     wholly : (p : Parsed Program) → program s 5 ≡ p → read s ≡ whole s p
     unfolding read
     wholly p e = simp (z, eq-eqb (getD s 4 0) 1 v, e)
 
-    pub bad-byte : (l : List ℕ) (q : Skip) (x : ℕ) → q ≡ skipOf (program s 5) → q ≡ Skip.Bad x → Answered s l (Reading.Byte x)
-    unfolding skipOf readingOf outcome PlacedBy whole
-    bad-byte l q x e a = go (program s 5) refl (sym e ∙ a)
-      where
-        go : (p : Parsed Program) → program s 5 ≡ p → skipOf p ≡ Skip.Bad x → Answered s l (Reading.Byte x)
-        go (Parsed.ok P m) h f = absurd (let z : _≡_ {A = ℕ} 0 1 = cc in omega arith)
-        go (Parsed.bad y) h f = answered s l (Reading.Byte x) (Answer.refused (Refusal.byte x)) (wholly (Parsed.bad y) h ∙ ap (λ (y : ℕ). Answer.refused (Refusal.byte y)) (let i : y ≡ x = cc in i)) refl tt
+    -- 3: the code's answer r, with the places l
+    at-byte : (l : List ℕ) (x : ℕ) (r : Code.Answer) → (r ≡ Refused (Byte x)) × (l ≡ nowhere) → read s ≡ Answer.refused (Refusal.byte x) → ReadAs s l r
+    unfolding outcome PlacedBy
+    at-byte l x r (d, o) e = answered s l r (Answer.refused (Refusal.byte x)) e (ap answerOf d) o
+
+    module _ (q : Skip) (x : ℕ) (e : q ≡ skipOf (program s 5)) (l : List ℕ) (r : Code.Answer) (b : (r ≡ Refused (Byte x)) × (l ≡ nowhere)) where
+      pub bad-byte : q ≡ Skip.Bad x → ReadAs s l r
+      unfolding skipOf whole
+      bad-byte a = go (program s 5) refl (sym e ∙ a)
+        where
+          go : (p : Parsed Program) → program s 5 ≡ p → skipOf p ≡ Skip.Bad x → ReadAs s l r
+          go (Parsed.ok P m) h f = absurd (let z : _≡_ {A = ℕ} 0 1 = cc in omega arith)
+          go (Parsed.bad y) h f = at-byte l x r b (wholly (Parsed.bad y) h ∙ ap (λ (y : ℕ). Answer.refused (Refusal.byte y)) (let i : y ≡ x = cc in i))
 
     module _ (q : Skip) (x : ℕ) (e : q ≡ skipOf (program s 5)) (a : q ≡ Skip.At x) where
       ends : (p : Parsed Program) → skipOf p ≡ Skip.At x → (P : Program) × (p ≡ Parsed.ok P x)
@@ -91,17 +97,17 @@ module _ (s : List ℕ) (z : sized s ≡ true) where
       ends (Parsed.ok P m) f = (P, ap (Parsed.ok P) (let i : m ≡ x = cc in i))
       ends (Parsed.bad y) f = absurd (let z : _≡_ {A = ℕ} 0 1 = cc in omega arith)
 
-      pub left-over : (l : List ℕ) → (x ≡ length s → ⊥) → Answered s l (Reading.Byte x)
-      unfolding readingOf outcome PlacedBy whole
-      left-over l n =
+      pub left-over : (l : List ℕ) (r : Code.Answer) → (r ≡ Refused (Byte x)) × (l ≡ nowhere) → (x ≡ length s → ⊥) → ReadAs s l r
+      unfolding whole
+      left-over l r b n =
           let p = ends (program s 5) (sym e ∙ a) in
-          answered s l (Reading.Byte x) (Answer.refused (Refusal.byte x)) (wholly _ (p .1) ∙ simp (ne-eqb x (length s) n)) refl tt
+          at-byte l x r b (wholly _ (p .1) ∙ simp (ne-eqb x (length s) n))
 
-      pub all-read : (l l₀ : List ℕ) → x ≡ length s → l₀ ≡ nowhere → Kept q l (programMarks s 5 l₀) → Answered s l Reading.Fine
-      unfolding readingOf outcome PlacedBy whole
+      pub all-read : (l l₀ : List ℕ) → x ≡ length s → l₀ ≡ nowhere → Kept q l (programMarks s 5 l₀) → ReadAs s l Given
+      unfolding outcome PlacedBy whole
       all-read l l₀ n c k =
           let p = ends (program s 5) (sym e ∙ a) in
-          answered s l Reading.Fine (Answer.given (p .0)) (wholly _ (p .1) ∙ simp (eq-eqb x (length s) n)) refl
+          answered s l Given (Answer.given (p .0)) (wholly _ (p .1) ∙ simp (eq-eqb x (length s) n)) refl
           (there (p .0) (p .1))
         where
           there : (P : Program) → program s 5 ≡ Parsed.ok P x → Places s P l

@@ -1,20 +1,15 @@
 // A table's bytes: reading them (refusals 1 to 3), and the places of its functions, spawn calls and blocks.
+use answers::Answer;
+use answers::No;
+use answers::Refusal;
 ghost use mathlib.Core.Path.{_≡_};
 ghost use mathlib.Core.Bool.{true};
 ghost use Rattle.model.specs.Read as Read;
-ghost use Rattle.model.specs.Calls as Calls;
-ghost use Rattle.table.specs.Reading.{readingOf, outcome, PlacedBy};
+ghost use Rattle.table.specs.Marks.{nowhere};
+ghost use Rattle.table.specs.Reading.{ReadAs};
 
-pub mod grammar;
+mod grammar;
 mod walk;
-
-// What reading answers: a table that reads, 1, 2, or 3 with the place of the first bad byte.
-pub enum Reading {
-    Fine,
-    Size,
-    Version,
-    Byte(usize),
-}
 
 // Whether the size is within the limits, and the length field says it.
 pub fn sized(s: &[u8]) -> bool
@@ -29,34 +24,42 @@ pub fn sized(s: &[u8]) -> bool
     bytes::word(s, 0) as usize == s.len()
 }
 
-// Reads a table. Where it reads, the places are those of its program.
-pub fn read(s: &[u8], places: &mut [u16; 656]) -> Reading
-    ensures { λ r. ⌜ (readingOf r ≡ outcome (Calls.read (now (s .entry)))) × PlacedBy (now (s .entry)) (now (places .exit)) (Calls.read (now (s .entry))) ⌝ }
+// Reads a table: 1 to 3, or given. The places are then those of its program; where it does not read they are none.
+pub fn read(s: &[u8], places: &mut [u16; 656]) -> Answer
+    ensures { λ r. ⌜ ReadAs (now (s .entry)) (now (places .exit)) r ⌝ }
 {
+    walk::clear(places);
     if sized(s) {
         body(s, places)
     } else {
-        Reading::Size
+        Answer::Refused(Refusal::Plain(No::SIZE))
     }
 }
 
 // What follows the length: the version, and the functions up to the table's end.
-fn body(s: &[u8], places: &mut [u16; 656]) -> Reading
-    requires { ⌜ Read.sized (now s) ≡ true ⌝ }
-    ensures { λ r. ⌜ (readingOf r ≡ outcome (Calls.read (now (s .entry)))) × PlacedBy (now (s .entry)) (now (places .exit)) (Calls.read (now (s .entry))) ⌝ }
+fn body(s: &[u8], places: &mut [u16; 656]) -> Answer
+    requires { ⌜ (Read.sized (now s) ≡ true) × (now places ≡ nowhere) ⌝ }
+    ensures { λ r. ⌜ ReadAs (now (s .entry)) (now (places .exit)) r ⌝ }
 {
     if bytes::byte(s, 4) != 1 {
-        return Reading::Version;
+        return Answer::Refused(Refusal::Plain(No::VERSION));
     }
-    walk::clear(places);
     match walk::program(s, 5, places) {
         grammar::Skip::At(end) => {
             if end == s.len() {
-                Reading::Fine
+                Answer::Given
             } else {
-                Reading::Byte(end)
+                bad_byte(end, places)
             }
         }
-        grammar::Skip::Bad(place) => Reading::Byte(place),
+        grammar::Skip::Bad(place) => bad_byte(place, places),
     }
+}
+
+// 3, with the offset of the first bad byte; the places are none.
+fn bad_byte(at: usize, places: &mut [u16; 656]) -> Answer
+    ensures { λ r. ⌜ (r ≡ Answer.Refused (Refusal.Byte at)) × (now (places .exit) ≡ nowhere) ⌝ }
+{
+    walk::clear(places);
+    Answer::Refused(Refusal::Byte(at))
 }

@@ -1,4 +1,5 @@
 // Transfers over the places: a target is looked up by number, read once into a small struct, and tested by plain values.
+use answers::No;
 use places::Place;
 use walks::Seen;
 ghost use Prim.Native.Nat.{_≤_};
@@ -72,7 +73,7 @@ pub fn head_at(s: &[u8], at: usize) -> Opening
 }
 
 // Block b of function f.
-pub fn block_of(s: &[u8], places: &[u16; 656], f: usize, b: u8) -> Target
+fn block_of(s: &[u8], places: &[u16; 656], f: usize, b: u8) -> Target
     ensures { λ r. ⌜ Targets (now (s .entry)) (now (places .entry)) f b r ⌝ }
 {
     match places::block(places, f, b as usize) {
@@ -139,13 +140,13 @@ fn one(s: &[u8], here: Here, h: Opening, n: u8) -> Verdict
             if walks::part(h.scope, here.bound) {
                 Verdict::Fine
             } else {
-                Verdict::Fault(10)
+                Verdict::Fault(No::SCOPE)
             }
         } else {
-            Verdict::Fault(11)
+            Verdict::Fault(No::NESTING)
         }
     } else {
-        Verdict::Fault(9)
+        Verdict::Fault(No::COUNT)
     }
 }
 
@@ -154,10 +155,10 @@ fn both(s: &[u8], here: Here, h: Opening, n: u8, k: Opening, m: u8) -> Verdict
     ensures { λ r. ⌜ Both (now (s .entry)) here h n k m r ⌝ }
 {
     if h.count != n {
-        return Verdict::Fault(9);
+        return Verdict::Fault(No::COUNT);
     }
     if k.count != m {
-        return Verdict::Fault(9);
+        return Verdict::Fault(No::COUNT);
     }
     if keeps(s, h, here.nesting, here.depth) {
         if keeps(s, k, here.nesting, here.depth) {
@@ -165,16 +166,16 @@ fn both(s: &[u8], here: Here, h: Opening, n: u8, k: Opening, m: u8) -> Verdict
                 if walks::part(k.scope, here.bound) {
                     Verdict::Fine
                 } else {
-                    Verdict::Fault(10)
+                    Verdict::Fault(No::SCOPE)
                 }
             } else {
-                Verdict::Fault(10)
+                Verdict::Fault(No::SCOPE)
             }
         } else {
-            Verdict::Fault(11)
+            Verdict::Fault(No::NESTING)
         }
     } else {
-        Verdict::Fault(11)
+        Verdict::Fault(No::NESTING)
     }
 }
 
@@ -187,13 +188,13 @@ fn grown(s: &[u8], here: Here, h: Opening, x: u8) -> Verdict
             if walks::part(h.scope, here.bound) {
                 Verdict::Fine
             } else {
-                Verdict::Fault(10)
+                Verdict::Fault(No::SCOPE)
             }
         } else {
-            Verdict::Fault(11)
+            Verdict::Fault(No::NESTING)
         }
     } else {
-        Verdict::Fault(9)
+        Verdict::Fault(No::COUNT)
     }
 }
 
@@ -203,9 +204,9 @@ fn go(s: &[u8], places: &[u16; 656], here: Here, at: usize) -> Verdict
     ensures { λ r. ⌜ Judges Read.goto (now (s .entry)) (now (places .entry)) here at r ⌝ }
 {
     match walks::arguments(s, at + 1, here.bound) {
-        Seen::Unbound => Verdict::Fault(8),
+        Seen::Unbound => Verdict::Fault(No::UNBOUND),
         Seen::Bound(_) => match block_of(s, places, here.f, bytes::byte(s, at)) {
-            Target::Missing => Verdict::Fault(6),
+            Target::Missing => Verdict::Fault(No::MISSING),
             Target::There(h) => one(s, here, h, bytes::byte(s, at + 1)),
         },
     }
@@ -216,11 +217,11 @@ fn branch(s: &[u8], places: &[u16; 656], here: Here, at: usize) -> Verdict
     ensures { λ r. ⌜ Judges Read.if (now (s .entry)) (now (places .entry)) here at r ⌝ }
 {
     match walks::expression(s, at, here.bound) {
-        Seen::Unbound => Verdict::Fault(8),
+        Seen::Unbound => Verdict::Fault(No::UNBOUND),
         Seen::Bound(k) => match block_of(s, places, here.f, bytes::byte(s, k)) {
-            Target::Missing => Verdict::Fault(6),
+            Target::Missing => Verdict::Fault(No::MISSING),
             Target::There(h) => match block_of(s, places, here.f, bytes::item(s, k, 1)) {
-                Target::Missing => Verdict::Fault(6),
+                Target::Missing => Verdict::Fault(No::MISSING),
                 Target::There(j) => both(s, here, h, 0, j, 0),
             },
         },
@@ -233,16 +234,16 @@ fn invoke(s: &[u8], places: &[u16; 656], here: Here, at: usize) -> Verdict
     ensures { λ r. ⌜ Judges Read.call (now (s .entry)) (now (places .entry)) here at r ⌝ }
 {
     match walks::arguments(s, at + 1, here.bound) {
-        Seen::Unbound => Verdict::Fault(8),
+        Seen::Unbound => Verdict::Fault(No::UNBOUND),
         Seen::Bound(k) => match function_of(s, places, bytes::byte(s, at) as usize) {
-            Callee::Unknown => Verdict::Fault(6),
+            Callee::Unknown => Verdict::Fault(No::MISSING),
             Callee::Takes(n, m) => match block_of(s, places, here.f, bytes::byte(s, k)) {
-                Target::Missing => Verdict::Fault(6),
+                Target::Missing => Verdict::Fault(No::MISSING),
                 Target::There(h) => {
                     if bytes::byte(s, at + 1) == n {
                         one(s, here, h, m)
                     } else {
-                        Verdict::Fault(9)
+                        Verdict::Fault(No::COUNT)
                     }
                 }
             },
@@ -255,18 +256,18 @@ fn leave(s: &[u8], places: &[u16; 656], here: Here, at: usize) -> Verdict
     ensures { λ r. ⌜ Judges Read.return (now (s .entry)) (now (places .entry)) here at r ⌝ }
 {
     match walks::arguments(s, at, here.bound) {
-        Seen::Unbound => Verdict::Fault(8),
+        Seen::Unbound => Verdict::Fault(No::UNBOUND),
         Seen::Bound(_) => match function_of(s, places, here.f) {
-            Callee::Unknown => Verdict::Fault(6),
+            Callee::Unknown => Verdict::Fault(No::MISSING),
             Callee::Takes(_, m) => {
                 if bytes::byte(s, at) == m {
                     if here.depth == 0 {
                         Verdict::Fine
                     } else {
-                        Verdict::Fault(11)
+                        Verdict::Fault(No::NESTING)
                     }
                 } else {
-                    Verdict::Fault(9)
+                    Verdict::Fault(No::COUNT)
                 }
             }
         },
@@ -279,9 +280,9 @@ fn fork(s: &[u8], places: &[u16; 656], here: Here, at: usize) -> Verdict
 {
     let x = bytes::item(s, at, 1);
     match block_of(s, places, here.f, bytes::byte(s, at)) {
-        Target::Missing => Verdict::Fault(6),
+        Target::Missing => Verdict::Fault(No::MISSING),
         Target::There(h) => match places::spawn(places, here.f, x as usize) {
-            Place::Nowhere => Verdict::Fault(6),
+            Place::Nowhere => Verdict::Fault(No::MISSING),
             Place::At(_) => grown(s, here, h, x),
         },
     }
@@ -292,16 +293,16 @@ fn join(s: &[u8], places: &[u16; 656], here: Here, at: usize) -> Verdict
     ensures { λ r. ⌜ Judges Read.spoin (now (s .entry)) (now (places .entry)) here at r ⌝ }
 {
     match block_of(s, places, here.f, bytes::byte(s, at)) {
-        Target::Missing => Verdict::Fault(6),
+        Target::Missing => Verdict::Fault(No::MISSING),
         Target::There(h) => match block_of(s, places, here.f, bytes::item(s, at, 1)) {
-            Target::Missing => Verdict::Fault(6),
+            Target::Missing => Verdict::Fault(No::MISSING),
             Target::There(k) => {
                 if here.depth == 0 {
-                    return Verdict::Fault(11);
+                    return Verdict::Fault(No::NESTING);
                 }
                 let front = here.depth - 1;
                 match spawned_by(s, places, here.f, bytes::item(s, here.nesting, front)) {
-                    Callee::Unknown => Verdict::Fault(6),
+                    Callee::Unknown => Verdict::Fault(No::MISSING),
                     Callee::Takes(_, m) => {
                         let outer = Here {
                             f: here.f,

@@ -7,6 +7,7 @@ use mathlib.Core.List.{List, [], _∷_, _++_}
 use native.Mathlib.Omega.{arith}
 use lib.Dec.{eqb}
 use lib.ListN.{length, getD, getElem?, drop}
+use Rattle.model.specs.Numbers as No
 use Rattle.model.specs.Answers.{Refusal, Answer}
 use Rattle.model.specs.Lists.{all, equal}
 use Rattle.model.specs.Sets.{has, withAll, below}
@@ -43,8 +44,9 @@ use Rattle.transfers.proofs.Nestings.{equal-lengths, nest-length}
 use Rattle.transfers.proofs.Judged.{own-there, nothing, nil-nil}
 use Rattle.verifier.specs.declared.Ranked.{Ranked}
 use Rattle.verifier.specs.declared.Ranked.the-variants as ranked
-use Rattle.verifier.specs.declared.Judged.{Judged}
-use Rattle.verifier.specs.declared.Judged.the-variants as judged
+use Rattle.answers.specs.declared.Answer as Code
+use Rattle.answers.specs.declared.Answer.the-variants.{Given, Refused}
+use Rattle.answers.specs.declared.Refusal.the-variants as why
 use Rattle.verifier.specs.Verdicts.{rankedOf, follow, Nests, NestsAll, Entered, Enters, Spawns, SpawnsFrom, Codes, Blocks, BlocksFrom, FunctionsFrom, Judges}
 
 -- function f keeps to the limits
@@ -377,13 +379,13 @@ module _ (s places : List ℕ) (f : ℕ) where
   unfolding Check.ofFunctions firstFault
   functions-over P e = rw e refl
 
-  pub functions-end : 16 ≤ f → FunctionsFrom s places f judged.Accepted
+  pub functions-end : 16 ≤ f → FunctionsFrom s places f Given
   functions-end l P I =
       let few : length P ≤ 16 = I .limits .few in
       functions-over P (drop-none P f (past-at P f (omega arith)))
 
   module _ {r : Place} (find : FindsFunction places f r) where
-    pub functions-none : r ≡ Nowhere → FunctionsFrom s places f judged.Accepted
+    pub functions-none : r ≡ Nowhere → FunctionsFrom s places f Given
     functions-none z P I =
         functions-over P (drop-none P f (subst (λ (q : Place). Found Read.function s q (getElem? P f)) z (find s P I)))
 
@@ -393,7 +395,7 @@ module _ (s places : List ℕ) (f : ℕ) where
           let (F, e, _) = subst (λ (q : Place). Found Read.function s q (getElem? P f)) z (find s P I) in
           (F, record { index = I; there = e })
 
-      pub functions-spawn : {m : ℕ} → q ≡ Fault m → FunctionsFrom s places f (judged.Fault m f 255)
+      pub functions-spawn : {m : ℕ} → q ≡ Fault m → FunctionsFrom s places f (Refused (why.Fault m f 255))
       unfolding Check.ofFunctions firstFault Check.at
       functions-spawn {m} e P I =
           let (F, W) = there P I in
@@ -409,12 +411,12 @@ module _ (s places : List ℕ) (f : ℕ) where
             (follow-append (Check.ofBlocks (env P F) f 0 (F .blocks)) (Check.ofFunctions P (f + 1) (drop (f + 1) P)) ∙
             blocks P F (firstFault (Check.ofFunctions P (f + 1) (drop (f + 1) P))) W)
 
-        pub functions-block : {m b : ℕ} → w ≡ ranked.Fault m b → FunctionsFrom s places f (judged.Fault m f b)
+        pub functions-block : {m b : ℕ} → w ≡ ranked.Fault m b → FunctionsFrom s places f (Refused (why.Fault m f b))
         functions-block d P I =
             let (F, W) = there P I in
             split P F W ∙ ap (λ (v : Ranked). rankedOf f v (firstFault (Check.ofFunctions P (f + 1) (drop (f + 1) P)))) d
 
-        pub functions-on : w ≡ ranked.Clean → (a : Judged) → FunctionsFrom s places (f + 1) a → FunctionsFrom s places f a
+        pub functions-on : w ≡ ranked.Clean → (a : Code.Answer) → FunctionsFrom s places (f + 1) a → FunctionsFrom s places f a
         functions-on d a g P I =
             let (F, W) = there P I in
             split P F W ∙ ap (λ (v : Ranked). rankedOf f v (firstFault (Check.ofFunctions P (f + 1) (drop (f + 1) P)))) d ∙ g P I
@@ -424,10 +426,10 @@ module _ (s places : List ℕ) (t : Callee) (c : Callees s places 0 t) where
   main : (P : Program) → Places s P places → (F : Function) × Within s places 0 P F
   main P I = let (F, e) = below-at P 0 (I .limits .some) in (F, record { index = I; there = e })
 
-  pub judge-unknown : (r : Judged) → t ≡ Unknown → Judges s places r
+  pub judge-unknown : (r : Code.Answer) → t ≡ Unknown → Judges s places r
   judge-unknown r z P I = let (F, W) = main P I in own-there s places 0 c z P F W
 
-  pub judge-main : {n m : ℕ} → t ≡ Takes n m → (n ≡ 0 → ⊥) → Judges s places (judged.Fault 4 0 255)
+  pub judge-main : {n m : ℕ} → t ≡ Takes n m → (n ≡ 0 → ⊥) → Judges s places (Refused (why.Fault No.main 0 255))
   unfolding Check.judge Check.tests Check.ofMain firstFault Check.at
   judge-main {n} z d P I =
       let (F, W) = main P I in
@@ -435,7 +437,7 @@ module _ (s places : List ℕ) (t : Callee) (c : Callees s places 0 t) where
       let bad : fault (Tests.need 4 (eqb (F .signature .parameters) 0)) ≡ some 4 = need-fails 4 _ (ne-eqb _ _ (λ e. d (sym is ∙ e))) in
       rw (W .there, bad) refl
 
-  pub judge-on : {n m : ℕ} (r : Judged) → t ≡ Takes n m → n ≡ 0 → FunctionsFrom s places 0 r → Judges s places r
+  pub judge-on : {n m : ℕ} (r : Code.Answer) → t ≡ Takes n m → n ≡ 0 → FunctionsFrom s places 0 r → Judges s places r
   unfolding Check.judge Check.tests Check.ofMain firstFault Check.at
   judge-on {n} r z d g P I =
       let (F, W) = main P I in

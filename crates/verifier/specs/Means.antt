@@ -6,18 +6,24 @@ use Rattle.model.specs.Answers.{Refusal, Answer}
 use Rattle.model.specs.Syntax.{Program}
 use Rattle.model.specs.WellFormed.{WF-prog}
 use Rattle.model.specs.Check.{tests, firstFault}
-use Rattle.model.specs.Calls.{read}
-use Rattle.verifier.specs.declared.Checked.{Checked}
-use Rattle.verifier.specs.declared.Checked.the-variants.{Accepted}
-use Rattle.verifier.specs.Answers.{checkedOf}
+use Rattle.model.specs.Calls.{read, check}
+use Rattle.answers.specs.declared.Answer as Code
+use Rattle.answers.specs.declared.Answer.the-variants.{Given}
+use Rattle.answers.specs.Answers.{answerOf}
+use Rattle.table.specs.Reading.{PlacedBy}
 
 -- the table reads to a program that is well formed by the published rules, as document 01 narrows them
 abbrev pub WellFormed : List ℕ → Type 0
 WellFormed s = (P : Program) × (read s ≡ Answer.given P) × WF-prog P
 
 -- accepted exactly where well formed; otherwise reading's refusal, or the first fault of the tests in their order
-pub record Means (s : List ℕ) (r : Checked) : Type 0 where
-  pub sound : r ≡ Accepted → WellFormed s
-  pub complete : WellFormed s → r ≡ Accepted
-  pub unread : (x : Refusal) → read s ≡ Answer.refused x → checkedOf r ≡ Answer.refused x
-  pub first : (P : Program) → read s ≡ Answer.given P → checkedOf r ≡ firstFault (tests P)
+pub record Means (s : List ℕ) (r : Code.Answer) : Type 0 where
+  pub sound : r ≡ Given → WellFormed s
+  pub complete : WellFormed s → r ≡ Given
+  pub unread : (x : Refusal) → read s ≡ Answer.refused x → answerOf r ≡ Answer.refused x
+  pub first : (P : Program) → read s ≡ Answer.given P → answerOf r ≡ firstFault (tests P)
+
+-- the check's answer, and the places that it leaves: those of the program that was read; none where none was
+pub record CheckedAs (s places : List ℕ) (r : Code.Answer) : Type 0 where
+  pub answer : answerOf r ≡ check s
+  pub placed : PlacedBy s places (read s)

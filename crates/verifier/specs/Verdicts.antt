@@ -19,13 +19,8 @@ use Rattle.transfers.specs.declared.Verdict.{Verdict}
 use Rattle.transfers.specs.Targets.{verdictOf, Within, Nest, IsHead}
 use Rattle.verifier.specs.declared.Ranked.{Ranked}
 use Rattle.verifier.specs.declared.Ranked.the-variants as ranked
-use Rattle.verifier.specs.declared.Judged.{Judged}
-use Rattle.verifier.specs.declared.Judged.the-variants as judged
-
--- the answer: accepted, or the fault with its place
-abbrev pub answerOf : Judged → Answer (Unit {0})
-answerOf judged.Accepted = Answer.given tt
-answerOf (judged.Fault n f b) = Answer.refused (Refusal.fault n f b)
+use Rattle.answers.specs.declared.Answer as Code
+use Rattle.answers.specs.Answers.{answerOf}
 
 -- the answer of function f's blocks, before that of what follows
 abbrev pub rankedOf : ℕ → Ranked → Answer (Unit {0}) → Answer (Unit {0})
@@ -81,8 +76,8 @@ BlocksFrom s places f b r =
     (P : Program) (F : Function) (a : Answer (Unit {0})) → Within s places f P F →
     follow (Check.ofBlocks (env P F) f b (drop b (F .blocks))) a ≡ rankedOf f r a
 
-abbrev pub FunctionsFrom : List ℕ → List ℕ → ℕ → Judged → Type 0
+abbrev pub FunctionsFrom : List ℕ → List ℕ → ℕ → Code.Answer → Type 0
 FunctionsFrom s places f r = (P : Program) → Places s P places → firstFault (Check.ofFunctions P f (drop f P)) ≡ answerOf r
 
-abbrev pub Judges : List ℕ → List ℕ → Judged → Type 0
+abbrev pub Judges : List ℕ → List ℕ → Code.Answer → Type 0
 Judges s places r = (P : Program) → Places s P places → Check.judge P ≡ answerOf r

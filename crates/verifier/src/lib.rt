@@ -1,7 +1,9 @@
 // The check of a table over its places: phase by phase in the order of the definition. Blocks and functions are taken by
 // number, so those that nothing names are judged too.
+use answers::Answer;
+use answers::No;
+use answers::Refusal;
 use places::Place;
-use table::Reading;
 use transfers::Callee;
 use transfers::Here;
 use transfers::Opening;
@@ -10,8 +12,8 @@ use walks::Seen;
 use walks::Walk;
 ghost use mathlib.Core.Path.{_≡_};
 ghost use Rattle.model.specs.Calls as Calls;
-ghost use Rattle.table.specs.Reading.{PlacedBy};
-ghost use Rattle.verifier.specs.Answers.{checkedOf};
+ghost use Rattle.answers.specs.Answers.{answerOf};
+ghost use Rattle.verifier.specs.Means.{CheckedAs};
 ghost use Rattle.verifier.specs.Verdicts.{Nests, NestsAll, Entered, Enters, Spawns, SpawnsFrom, Codes, Blocks, BlocksFrom, FunctionsFrom, Judges};
 
 // The blocks of a function: none has a fault, or the first fault's number and block.
@@ -20,34 +22,18 @@ pub enum Ranked {
     Fault(u8, usize),
 }
 
-// The answer on a table that reads: accepted, or the first fault's number, function and block.
-pub enum Judged {
-    Accepted,
-    Fault(u8, usize, usize),
-}
-
-// The answer on any table: accepted; 1; 2; 3 with the offset of the first bad byte; or 4 to 11 with the function and the
-// block, 255 for main's fault and for a spawn call's.
-pub enum Checked {
-    Accepted,
-    Size,
-    Version,
-    Form(usize),
-    Fault(u8, usize, usize),
-}
-
 // A nesting's entry: the spawn call is there, and its arguments lie in the scope.
 fn nests(s: &[u8], places: &[u16; 656], f: usize, x: u8, scope: u16) -> Verdict
     ensures { λ r. ⌜ Nests (now (s .entry)) (now (places .entry)) f x scope r ⌝ }
 {
     match places::spawn(places, f, x as usize) {
-        Place::Nowhere => Verdict::Fault(6),
+        Place::Nowhere => Verdict::Fault(No::MISSING),
         Place::At(at) => {
             if s.len() <= at {
                 return Verdict::Fine;
             }
             match walks::arguments(s, at + 1, scope) {
-                Seen::Unbound => Verdict::Fault(10),
+                Seen::Unbound => Verdict::Fault(No::SCOPE),
                 Seen::Bound(_) => Verdict::Fine,
             }
         }
@@ -113,12 +99,12 @@ fn spawns(s: &[u8], places: &[u16; 656], at: usize) -> Verdict
     ensures { λ r. ⌜ Spawns (now (s .entry)) (now (places .entry)) at r ⌝ }
 {
     match transfers::function_of(s, places, bytes::byte(s, at) as usize) {
-        Callee::Unknown => Verdict::Fault(6),
+        Callee::Unknown => Verdict::Fault(No::MISSING),
         Callee::Takes(n, _) => {
             if bytes::item(s, at, 1) == n {
                 Verdict::Fine
             } else {
-                Verdict::Fault(9)
+                Verdict::Fault(No::COUNT)
             }
         }
     }
@@ -179,7 +165,7 @@ fn blocks(s: &[u8], places: &[u16; 656], f: usize, b: usize, at: usize) -> Verdi
             },
         }
     } else {
-        Verdict::Fault(5)
+        Verdict::Fault(No::ENTRY)
     }
 }
 
@@ -203,17 +189,17 @@ fn blocks_all(s: &[u8], places: &[u16; 656], f: usize) -> Ranked
 }
 
 // The functions, one by one: spawn calls, then blocks.
-fn functions(s: &[u8], places: &[u16; 656]) -> Judged
+fn functions(s: &[u8], places: &[u16; 656]) -> Answer
     ensures { λ r. ⌜ FunctionsFrom (now (s .entry)) (now (places .entry)) 0 r ⌝ }
 {
     let mut f = 0;
     while f < 16 {
         match places::function(places, f) {
-            Place::Nowhere => return Judged::Accepted,
+            Place::Nowhere => return Answer::Given,
             Place::At(_) => match spawns_all(s, places, f) {
-                Verdict::Fault(m) => return Judged::Fault(m, f, 255),
+                Verdict::Fault(m) => return Answer::Refused(Refusal::Fault(m, f, 255)),
                 Verdict::Fine => match blocks_all(s, places, f) {
-                    Ranked::Fault(m, b) => return Judged::Fault(m, f, b),
+                    Ranked::Fault(m, b) => return Answer::Refused(Refusal::Fault(m, f, b)),
                     Ranked::Clean => {
                         f += 1;
                     }
@@ -221,44 +207,39 @@ fn functions(s: &[u8], places: &[u16; 656]) -> Judged
             },
         }
     }
-    Judged::Accepted
+    Answer::Given
 }
 
 // A table that reads, by its places: main, and then each function.
-pub fn judge(s: &[u8], places: &[u16; 656]) -> Judged
+fn judge(s: &[u8], places: &[u16; 656]) -> Answer
     ensures { λ r. ⌜ Judges (now (s .entry)) (now (places .entry)) r ⌝ }
 {
     match transfers::function_of(s, places, 0) {
-        Callee::Unknown => Judged::Accepted,
+        Callee::Unknown => Answer::Given,
         Callee::Takes(n, _) => {
             if n == 0 {
                 functions(s, places)
             } else {
-                Judged::Fault(4, 0, 255)
+                Answer::Refused(Refusal::Fault(No::MAIN, 0, 255))
             }
         }
     }
 }
 
 // The check of a table, which leaves its places where it reads.
-pub fn check_placed(s: &[u8], places: &mut [u16; 656]) -> Checked
-    ensures { λ r. ⌜ (checkedOf r ≡ Calls.check (now (s .entry))) × PlacedBy (now (s .entry)) (now (places .exit)) (Calls.read (now (s .entry))) ⌝ }
+pub fn check_placed(s: &[u8], places: &mut [u16; 656]) -> Answer
+    ensures { λ r. ⌜ CheckedAs (now (s .entry)) (now (places .exit)) r ⌝ }
 {
     match table::read(s, places) {
-        Reading::Size => Checked::Size,
-        Reading::Version => Checked::Version,
-        Reading::Byte(place) => Checked::Form(place),
-        Reading::Fine => match judge(s, places) {
-            Judged::Accepted => Checked::Accepted,
-            Judged::Fault(n, f, b) => Checked::Fault(n, f, b),
-        },
+        Answer::Given => judge(s, places),
+        Answer::Refused(why) => Answer::Refused(why),
     }
 }
 
 // The check of a table. What its answer means is the law `means` of proofs/Meaning: accepted exactly where the table reads to
 // a well-formed program, and otherwise the first fault in order.
-pub fn check(s: &[u8]) -> Checked
-    ensures { λ r. ⌜ checkedOf r ≡ Calls.check (now (s .entry)) ⌝ }
+pub fn check(s: &[u8]) -> Answer
+    ensures { λ r. ⌜ answerOf r ≡ Calls.check (now (s .entry)) ⌝ }
 {
     let mut places = [0u16; 656];
     check_placed(s, &mut places)

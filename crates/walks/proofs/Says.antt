@@ -1,7 +1,7 @@
 -- The laws that the walks' proofs cite: what an answer says, from what the parts say.
 use Prim.Native.Nat.{ℕ, _+_, _-_, _≤_, _<_}
 use mathlib.Core.Path.{_≡_, refl, sym, _∙_, ap, subst}
-use mathlib.Core.Bool.{Bool, true, false, not, _&&_}
+use mathlib.Core.Bool.{Bool, true, false, not, cond, _&&_}
 use mathlib.Core.Option.{Option, none, some}
 use mathlib.Core.List.{List, _∷_}
 use native.Mathlib.Omega.{arith}
@@ -16,26 +16,33 @@ use Rattle.model.specs.Read.{Parsed, many}
 use Rattle.model.specs.Tests.{Tests, _then_, or, fault}
 use Rattle.model.specs.WellFormed.{Env}
 use Rattle.model.specs.Check as Check
-use Rattle.model.proofs.Facts.{eq-eqb, ne-eqb, eqb-true, eqb-false, none-some}
+use Rattle.model.proofs.Facts.{lt-ltb, le-ltb, eq-eqb, ne-eqb, eqb-true, eqb-false, none-some}
 use Rattle.model.proofs.Reading.{counted-ok}
 use Rattle.bytes.specs.Bytes.{operands}
 use Rattle.walks.specs.declared.Seen.{Seen}
 use Rattle.walks.specs.declared.Seen.the-variants.{Bound, Unbound}
 use Rattle.walks.specs.declared.Walk.{Walk}
 use Rattle.walks.specs.declared.Walk.the-variants.{Done, Fault}
-use Rattle.walks.specs.Walks.{SeesAtom, SeesExpression, SeesAll, SeesList, ofStatement, Steps, WalkedAs, Walks, Binds, Same}
+use Rattle.walks.specs.Walks.{withTemporary, SeesAtom, SeesExpression, SeesAll, SeesList, ofStatement, Steps, WalkedAs, Walks, Binds, Same}
 use Rattle.walks.proofs.Parts.{temporary-ok, name-ok, atom-inside, atom-value, atom-variable, expression-inside, expression-one, expression-two, statement-ok, many-down, many-none, all-append}
 use Rattle.walks.proofs.Faults.{need-fails, need-holds, then-first, then-second, not-of-true, not-of-false}
 
 -- whether the temporary at an offset is in a set
 abbrev pub HasAt : List ℕ → ℕ → ℕ → Bool → Type 0
-HasAt s at Γ b = getD s at 0 < 16 → b ≡ has Γ (getD s at 0)
+HasAt s at Γ b = b ≡ has Γ (getD s at 0)
 
-pub has-at : (s : List ℕ) (at Γ : ℕ) {x : ℕ} {b : Bool} → x ≡ getD s at 0 → (x < 16 → b ≡ has Γ x) → HasAt s at Γ b
-has-at s at Γ {x} {b} e h = subst (λ (y : ℕ). y < 16 → b ≡ has Γ y) e h
+pub has-at : (s : List ℕ) (at Γ : ℕ) {x : ℕ} {b : Bool} → x ≡ getD s at 0 → b ≡ has Γ x → HasAt s at Γ b
+has-at s at Γ e h = h ∙ ap (has Γ) e
 
-pub with-at : (s : List ℕ) (at Γ : ℕ) {x Δ : ℕ} → x ≡ getD s at 0 → (x < 16 → Δ ≡ with Γ x) → getD s at 0 < 16 → Δ ≡ with Γ (getD s at 0)
-with-at s at Γ {x} {Δ} e h = subst (λ (y : ℕ). y < 16 → Δ ≡ with Γ y) e h
+-- a set with a temporary, and with a number that is none
+pub with-small : (Γ x : ℕ) → x < 16 → with Γ x ≡ withTemporary Γ x
+with-small Γ x l = rw (lt-ltb x 16 l)
+
+pub with-large : (Γ x : ℕ) → 16 ≤ x → Γ ≡ withTemporary Γ x
+with-large Γ x l = rw (le-ltb x 16 l)
+
+pub with-at : (s : List ℕ) (at Γ : ℕ) {x Δ : ℕ} → x ≡ getD s at 0 → Δ ≡ withTemporary Γ x → getD s at 0 < 16 → Δ ≡ with Γ (getD s at 0)
+with-at s at Γ e h l = h ∙ ap (withTemporary Γ) e ∙ sym (with-small Γ (getD s at 0) l)
 
 -- two tests in a row
 and-true : (a b : Bool) → a ≡ true → (a && b) ≡ b
@@ -57,7 +64,7 @@ module _ (s : List ℕ) (at Γ : ℕ) where
   unfolding all
   single m e z h p =
       let (u, k, l) = atom-variable s at p z in
-      (rw (u, h l) refl, sym k)
+      (rw (u, h) refl, sym k)
 
   pub atom-in : {b : Bool} → (getD s at 0 ≡ 0 → ⊥) → HasAt s (at + 1) Γ b → b ≡ true → SeesAtom s at Γ (Bound (at + 2))
   atom-in {b} z h t m e p = let (u, k) = single m e z h p in (u ∙ and-true b true t, k)
@@ -130,34 +137,34 @@ module _ (s : List ℕ) (k n Γ : ℕ) where
   unfolding all
   all-out h t z x̄ e p =
       let f = first s k n h p in
-      rw (f .is) (and-false _ _ (sym (t (f .small)) ∙ z))
+      rw (f .is) (and-false _ _ (sym t ∙ z))
 
   pub all-in : {b : Bool} → 0 < n → HasAt s k Γ b → b ≡ true → (r : Seen) → SeesAll s (k + 1) (n - 1) Γ r → SeesAll s k n Γ r
   unfolding all
   all-in h t z r g x̄ e p =
       let f = first s k n h p in
-      let same : all (has Γ) x̄ ≡ all (has Γ) (f .rest) = ap (all (has Γ)) (f .is) ∙ and-true _ _ (sym (t (f .small)) ∙ z) in
+      let same : all (has Γ) x̄ ≡ all (has Γ) (f .rest) = ap (all (has Γ)) (f .is) ∙ and-true _ _ (sym t ∙ z) in
       rw same (g (f .rest) e (f .onward))
 
-  pub fresh-past : 0 < n → length s ≤ k → Binds s k n Γ (Fault 7)
+  pub fresh-past : 0 < n → length s ≤ k → Binds s k n Γ (Fault No.twice)
   fresh-past h l x̄ e p = let f = first s k n h p in absurd (omega (arith, f .inside))
 
   pub fresh-end : n ≤ 0 → Binds s k n Γ (Done Γ k)
   unfolding Check.fresh fault withAll
   fresh-end h x̄ e p = let (u, d) = many-none Read.temporary n s k h p in rw u (refl, refl)
 
-  pub fresh-twice : {b : Bool} → 0 < n → HasAt s k Γ b → b ≡ true → Binds s k n Γ (Fault 7)
+  pub fresh-twice : {b : Bool} → 0 < n → HasAt s k Γ b → b ≡ true → Binds s k n Γ (Fault No.twice)
   unfolding Check.fresh
   fresh-twice h t z x̄ e p =
       let f = first s k n h p in
-      rw (f .is) (then-first _ _ (need-fails 7 _ (not-of-true _ (sym (t (f .small)) ∙ z))))
+      rw (f .is) (then-first _ _ (need-fails No.twice _ (not-of-true _ (sym t ∙ z))))
 
   pub fresh-new : {b : Bool} {Δ : ℕ} → 0 < n → HasAt s k Γ b → b ≡ false → (getD s k 0 < 16 → Δ ≡ with Γ (getD s k 0)) → (r : Walk) → Binds s (k + 1) (n - 1) Δ r → Binds s k n Γ r
   unfolding Check.fresh withAll
   fresh-new {b} {Δ} h t z d r g x̄ e p =
       let f = first s k n h p in
       let same : fault (Check.fresh Γ (getD s k 0 ∷ f .rest)) ≡ fault (Check.fresh (with Γ (getD s k 0)) (f .rest)) =
-      then-second _ _ (need-holds 7 _ (not-of-false _ (sym (t (f .small)) ∙ z))) refl in
+      then-second _ _ (need-holds No.twice _ (not-of-false _ (sym t ∙ z))) refl in
       let set : withAll Γ (getD s k 0 ∷ f .rest) ≡ withAll (with Γ (getD s k 0)) (f .rest) = refl in
       rw (f .is, same, set, ← d (f .small)) (g (f .rest) e (f .onward))
 
@@ -173,23 +180,23 @@ module _ (s : List ℕ) (at Γ : ℕ) where
 
 -- statements
 module _ (s : List ℕ) (at Γ : ℕ) where
-  pub steps-past : length s ≤ at → Steps s at Γ (Fault 8)
+  pub steps-past : length s ≤ at → Steps s at Γ (Fault No.unbound)
   steps-past h S e p = let t = statement-ok s at p in absurd (omega (arith, t .inside))
 
-  pub steps-unbound : {r : Seen} → SeesExpression s (at + 1) Γ r → r ≡ Unbound → Steps s at Γ (Fault 8)
+  pub steps-unbound : {r : Seen} → SeesExpression s (at + 1) Γ r → r ≡ Unbound → Steps s at Γ (Fault No.unbound)
   unfolding Check.bound
   steps-unbound {r} h u S e p =
       let t = statement-ok s at p in
       let seen : SeesExpression s (at + 1) Γ Unbound = subst (SeesExpression s (at + 1) Γ) u h in
-      then-first _ _ (need-fails 8 _ (seen (S .source) e (t .source)))
+      then-first _ _ (need-fails No.unbound _ (seen (S .source) e (t .source)))
 
-  pub steps-twice : {r : Seen} {k : ℕ} {b : Bool} → SeesExpression s (at + 1) Γ r → r ≡ Bound k → HasAt s at Γ b → b ≡ true → Steps s at Γ (Fault 7)
+  pub steps-twice : {r : Seen} {k : ℕ} {b : Bool} → SeesExpression s (at + 1) Γ r → r ≡ Bound k → HasAt s at Γ b → b ≡ true → Steps s at Γ (Fault No.twice)
   unfolding Check.bound
   steps-twice {r} {k} h u g z S e p =
       let t = statement-ok s at p in
       let seen : SeesExpression s (at + 1) Γ (Bound k) = subst (SeesExpression s (at + 1) Γ) u h in
-      then-second _ _ (need-holds 8 _ (seen (S .source) e (t .source) .0))
-      (need-fails 7 _ (not-of-true _ (ap (has Γ) (t .target) ∙ sym (g (t .small)) ∙ z)))
+      then-second _ _ (need-holds No.unbound _ (seen (S .source) e (t .source) .0))
+      (need-fails No.twice _ (not-of-true _ (ap (has Γ) (t .target) ∙ sym g ∙ z)))
 
   pub steps-done : {r : Seen} {k Δ : ℕ} {b : Bool} → SeesExpression s (at + 1) Γ r → r ≡ Bound k → HasAt s at Γ b → b ≡ false → (getD s at 0 < 16 → Δ ≡ with Γ (getD s at 0)) → Steps s at Γ (Done Δ k)
   unfolding Check.bound
@@ -197,8 +204,8 @@ module _ (s : List ℕ) (at Γ : ℕ) where
       let t = statement-ok s at p in
       let seen : SeesExpression s (at + 1) Γ (Bound k) = subst (SeesExpression s (at + 1) Γ) u h in
       let (all-bound, behind) = seen (S .source) e (t .source) in (
-        then-second _ _ (need-holds 8 _ all-bound)
-            (need-holds 7 _ (not-of-false _ (ap (has Γ) (t .target) ∙ sym (g (t .small)) ∙ z))),
+        then-second _ _ (need-holds No.unbound _ all-bound)
+            (need-holds No.twice _ (not-of-false _ (ap (has Γ) (t .target) ∙ sym g ∙ z))),
         d (t .small) ∙ ap (with Γ) (sym (t .target)),
         behind,
       )

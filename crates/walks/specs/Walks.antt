@@ -1,12 +1,14 @@
 -- What the walks say of what is read at an offset: nothing where nothing is read.
 use Prim.Native.Nat.{ℕ}
 use mathlib.Core.Path.{_≡_}
-use mathlib.Core.Bool.{Bool, true, false, not}
+use mathlib.Core.Bool.{Bool, true, false, not, cond}
 use mathlib.Core.Option.{Option, none, some}
 use mathlib.Core.List.{List}
+use lib.Dec.{ltb}
 use Rattle.model.specs.Numbers as No
 use Rattle.model.specs.Lists.{all, equal}
 use Rattle.model.specs.Sets.{has, with, withAll}
+use Rattle.model.specs.Pool.{temporaries}
 use Rattle.model.specs.Syntax.{Statement, Transfer, uses, usesAtom}
 use Rattle.model.specs.Read as Read
 use Rattle.model.specs.Read.{Parsed, Parser}
@@ -17,6 +19,10 @@ use Rattle.walks.specs.declared.Seen.{Seen}
 use Rattle.walks.specs.declared.Seen.the-variants.{Bound, Unbound}
 use Rattle.walks.specs.declared.Walk.{Walk}
 use Rattle.walks.specs.declared.Walk.the-variants.{Done, Fault}
+
+-- a set with x, if that is a temporary: other numbers are in no set
+abbrev pub withTemporary : ℕ → ℕ → ℕ
+withTemporary Γ x = cond (ltb x temporaries) (with Γ x) Γ
 
 -- all temporaries are bound, and reading ends at e; or one is not
 abbrev pub SeenAs : Seen → Bool → ℕ → Type 0

@@ -1,8 +1,8 @@
 // Walks over a table's bytes: total over any offset, each says something of what is read there, where something is.
+use answers::No;
 ghost use mathlib.Core.Path.{_≡_};
-ghost use Prim.Native.Nat.{_<_};
-ghost use Rattle.model.specs.Sets.{has, with, within};
-ghost use Rattle.walks.specs.Walks.{SeesAtom, SeesExpression, SeesAll, SeesList, Steps, Walks, Binds, Same};
+ghost use Rattle.model.specs.Sets.{has, within};
+ghost use Rattle.walks.specs.Walks.{withTemporary, SeesAtom, SeesExpression, SeesAll, SeesList, Steps, Walks, Binds, Same};
 
 // What a walk over the temporaries that something uses finds: all are in the set, with the offset behind; or one is not.
 pub enum Seen {
@@ -17,15 +17,15 @@ pub enum Walk {
 }
 
 // Is x in the set?
-pub fn holds(set: u16, x: u8) -> bool
-    ensures { λ r. ⌜ (x < 16 → r ≡ has set x) ⌝ }
+fn holds(set: u16, x: u8) -> bool
+    ensures { λ r. ⌜ r ≡ has set x ⌝ }
 {
     if x < 16 { (set >> x) % 2 == 1 } else { false }
 }
 
-// The set with x.
-pub fn bind(set: u16, x: u8) -> u16
-    ensures { λ r. ⌜ (x < 16 → r ≡ with set x) ⌝ }
+// The set with x, if that is a temporary.
+fn bind(set: u16, x: u8) -> u16
+    ensures { λ r. ⌜ r ≡ withTemporary set x ⌝ }
 {
     if x < 16 { set | (1 << x) } else { set }
 }
@@ -112,11 +112,11 @@ pub fn fresh(s: &[u8], at: usize, n: u8, set: u16) -> Walk
     let mut bound = set;
     while 0 < left {
         if s.len() <= k {
-            return Walk::Fault(7);
+            return Walk::Fault(No::TWICE);
         }
         let x = bytes::byte(s, k);
         if holds(bound, x) {
-            return Walk::Fault(7);
+            return Walk::Fault(No::TWICE);
         }
         bound = bind(bound, x);
         k += 1;
@@ -130,14 +130,14 @@ fn statement(s: &[u8], at: usize, set: u16) -> Walk
     ensures { λ r. ⌜ Steps (now (s .entry)) at set r ⌝ }
 {
     if s.len() <= at {
-        return Walk::Fault(8);
+        return Walk::Fault(No::UNBOUND);
     }
     let x = bytes::byte(s, at);
     match expression(s, at + 1, set) {
-        Seen::Unbound => Walk::Fault(8),
+        Seen::Unbound => Walk::Fault(No::UNBOUND),
         Seen::Bound(k) => {
             if holds(set, x) {
-                Walk::Fault(7)
+                Walk::Fault(No::TWICE)
             } else {
                 Walk::Done(bind(set, x), k)
             }

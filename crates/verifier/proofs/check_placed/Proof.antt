@@ -1,23 +1,32 @@
 -- `verifier::check_placed` meets its contract.
-use Rattle.verifier.proofs.Meaning.{check-size, check-version, check-form, check-judged}
 use borrow.Author.Needs.{needs}
+use Rattle.verifier.proofs.Meaning.{check-refused, check-judged}
 use Rattle.verifier.proofs.check_placed.Statement.{statement}
 use Rattle.verifier.proofs.check_placed.Tie as tie
 
+read-requires : tie.Need-read-requires
+read-requires c κs = search needs
+
+enum-told : tie.Need-enum-told
+enum-told c = search needs
+
+judge-requires : tie.Need-judge-requires
+judge-requires c κs = search needs
+
+enum-known-why : tie.Need-enum-known-why
+enum-known-why c = search needs
+
+returns : tie.Need-returns
+returns c =
+    let told = c .before .before in
+    let read = told .before .before .read in
+    check-judged _ _ (read .result) (read .ensures) (c .judge .result) (told .enum-told .given .1) (c .judge .ensures)
+
+returns-2 : tie.Need-returns-2
+returns-2 c =
+    let told = c .before in
+    let read = told .before .before .read in
+    check-refused _ _ (read .result) (read .ensures) _ (told .why .given .1)
+
 pub check-placed-spec : {M : Type 1} → statement M
-check-placed-spec =
-    tie.close
-    (tie.spec
-    (λ c κs. search needs)
-    (λ c. search needs)
-    (λ c. search needs)
-    (λ c. search needs)
-    (λ c. search needs)
-    (λ c κs. search needs)
-    (λ c. search needs)
-    (λ c. search needs)
-    (λ c. (check-size (c .before .before .before .before .before .args .s .now) (c .before .before .read .result) (c .before .before .read .ensures .0) (c .enum-told .given .1), c .before .before .read .ensures .1))
-    (λ c. (check-version (c .before .before .before .before .before .args .s .now) (c .before .before .read .result) (c .before .before .read .ensures .0) (c .enum-told2 .given .1), c .before .before .read .ensures .1))
-    (λ c. (check-form (c .before .before .before .before .before .before .args .s .now) (c .before .before .before .read .result) (c .before .before .before .read .ensures .0) (c .before .place .given .1), c .before .before .before .read .ensures .1))
-    (λ c. (check-judged (c .before .before .before .before .before .before .before .before .before .args .s .now) (c .before .before .before .before .before .before .read .result) (c .before .before .before .before .before .before .read .ensures .0) _ (c .before .before .judge .result) _ (c .before .before .before .before .enum-told3 .given .1) (c .before .before .before .before .before .before .read .ensures .1) (c .before .before .judge .ensures) (c .enum-told4 .given .1), c .before .before .before .before .before .before .read .ensures .1))
-    (λ c. (check-judged (c .before .before .before .before .before .before .before .before .before .before .args .s .now) (c .before .before .before .before .before .before .before .read .result) (c .before .before .before .before .before .before .before .read .ensures .0) _ (c .before .before .before .judge .result) _ (c .before .before .before .before .before .enum-told3 .given .1) (c .before .before .before .before .before .before .before .read .ensures .1) (c .before .before .before .judge .ensures) (c .before .n .given .1), c .before .before .before .before .before .before .before .read .ensures .1)))
+check-placed-spec = tie.close (tie.spec read-requires enum-told judge-requires enum-known-why returns returns-2)

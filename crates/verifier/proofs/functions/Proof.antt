@@ -1,6 +1,7 @@
 -- `verifier::functions` meets its contract; the loop hands what the rest says to the whole.
-use Rattle.verifier.specs.declared.Judged.the-variants as judged
-use Rattle.verifier.specs.declared.Judged.{Judged}
+use Rattle.answers.specs.declared.Answer.the-variants.{Given, Refused}
+use Rattle.answers.specs.declared.Refusal.the-variants as why
+use Rattle.answers.specs.declared.Answer as Code
 use Prim.Native.Nat.{_-_}
 use Rattle.verifier.specs.Verdicts.{FunctionsFrom}
 use borrow.Author.Needs.{needs}
@@ -9,7 +10,7 @@ use Rattle.verifier.proofs.functions.Statement.{statement}
 use Rattle.verifier.proofs.functions.Tie as tie
 
 abbrev Inv-loop : tie.InvT-loop
-Inv-loop s places f₀ f = (r : Judged) → FunctionsFrom s places f r → FunctionsFrom s places 0 r
+Inv-loop s places f₀ f = (r : Code.Answer) → FunctionsFrom s places f r → FunctionsFrom s places 0 r
 
 abbrev μ-loop : tie.MeasureT-loop
 μ-loop s places f₀ f = 16 - f
@@ -23,17 +24,17 @@ functions-spec =
     (λ c. λ r h. h)
     (λ c κs. search needs)
     (λ c. search needs)
-    (λ c. let l = c .before .before .before .before .loop in let a = c .before .before .before .before .before .before .args in l .inv judged.Accepted (functions-none (a .s .now) (a .places .now) (l .f) (c .before .before .function .ensures) (c .enum-told .given .1)))
+    (λ c. let l = c .before .before .before .before .loop in let a = c .before .before .before .before .before .before .args in l .inv Given (functions-none (a .s .now) (a .places .now) (l .f) (c .before .before .function .ensures) (c .enum-told .given .1)))
     (λ c. search needs)
     (λ c κs. search needs)
     (λ c. search needs)
-    (λ c. let l = c .before .before .before .before .before .before .before .before .loop in let a = c .before .before .before .before .before .before .before .before .before .before .args in l .inv (judged.Fault (c .before .m .given .0 .0) (l .f) 255) (functions-spawn (a .s .now) (a .places .now) (l .f) (c .before .before .before .before .before .before .function .ensures) (c .before .before .before .before .enum-told2 .given .1) (c .before .before .before .spawns-all .result) (c .before .before .before .spawns-all .ensures) (c .before .m .given .1)))
+    (λ c. let l = c .before .before .before .before .before .before .before .before .loop in let a = c .before .before .before .before .before .before .before .before .before .before .args in l .inv (Refused (why.Fault (c .before .m .given .0 .0) (l .f) 255)) (functions-spawn (a .s .now) (a .places .now) (l .f) (c .before .before .before .before .before .before .function .ensures) (c .before .before .before .before .enum-told2 .given .1) (c .before .before .before .spawns-all .result) (c .before .before .before .spawns-all .ensures) (c .before .m .given .1)))
     (λ c. search needs)
     (λ c κs. search needs)
     (λ c. search needs)
-    (λ c. let l = c .before .before .before .before .before .before .before .before .before .before .before .loop in let a = c .before .before .before .before .before .before .before .before .before .before .before .before .before .args in l .inv (judged.Fault (c .before .m2 .given .0 .0) (l .f) (c .before .m2 .given .0 .1 .0)) (functions-block (a .s .now) (a .places .now) (l .f) (c .before .before .before .before .before .before .before .before .before .function .ensures) (c .before .before .before .before .before .before .before .enum-told2 .given .1) (c .before .before .before .before .before .before .spawns-all .result) (c .before .before .before .before .before .before .spawns-all .ensures) (c .before .before .before .before .enum-told3 .given .1) (c .before .before .before .blocks-all .result) (c .before .before .before .blocks-all .ensures) (c .before .m2 .given .1)))
+    (λ c. let l = c .before .before .before .before .before .before .before .before .before .before .before .loop in let a = c .before .before .before .before .before .before .before .before .before .before .before .before .before .args in l .inv (Refused (why.Fault (c .before .m2 .given .0 .0) (l .f) (c .before .m2 .given .0 .1 .0))) (functions-block (a .s .now) (a .places .now) (l .f) (c .before .before .before .before .before .before .before .before .before .function .ensures) (c .before .before .before .before .before .before .before .enum-told2 .given .1) (c .before .before .before .before .before .before .spawns-all .result) (c .before .before .before .before .before .before .spawns-all .ensures) (c .before .before .before .before .enum-told3 .given .1) (c .before .before .before .blocks-all .result) (c .before .before .before .blocks-all .ensures) (c .before .m2 .given .1)))
     (λ c. search needs)
     (λ c. search needs)
     (λ c. search needs)
     (λ c. let l = c .before .before .before .before .before .before .before .before .before .before .loop in let a = c .before .before .before .before .before .before .before .before .before .before .before .before .args in λ r h. l .inv r (functions-on (a .s .now) (a .places .now) (l .f) (c .before .before .before .before .before .before .before .before .function .ensures) (c .before .before .before .before .before .before .enum-told2 .given .1) (c .before .before .before .before .before .spawns-all .result) (c .before .before .before .before .before .spawns-all .ensures) (c .before .before .before .enum-told3 .given .1) (c .before .before .blocks-all .result) (c .before .before .blocks-all .ensures) (c .enum-told4 .given .1) r h))
-    (λ c. let l = c .before .loop in let a = c .before .before .before .args in l .inv judged.Accepted (functions-end (a .s .now) (a .places .now) (l .f) (c .loop-test .left))))
+    (λ c. let l = c .before .loop in let a = c .before .before .before .args in l .inv Given (functions-end (a .s .now) (a .places .now) (l .f) (c .loop-test .left))))

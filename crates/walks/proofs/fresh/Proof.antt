@@ -1,3 +1,4 @@
+use Rattle.model.specs.Numbers as No
 -- `walks::fresh` meets its contract; the loop hands what the rest says to the whole.
 use Rattle.walks.proofs.Says.{with-at, has-at, fresh-past, fresh-twice, fresh-new, fresh-end}
 use Rattle.walks.specs.declared.Walk.the-variants.{Done, Fault}
@@ -20,10 +21,10 @@ fresh-spec =
     Inv-loop
     μ-loop
     (λ c. λ r h. h)
-    (λ c. c .before .before .loop .inv (Fault 7) (fresh-past _ _ _ _ (search needs) (search needs)))
+    (λ c. c .before .before .loop .inv (Fault No.twice) (fresh-past _ _ _ _ (search needs) (search needs)))
     (λ c κs. search needs)
     (λ c κs. search needs)
-    (λ c. let l = c .before .before .before .before .before .loop in l .inv (Fault 7) (fresh-twice _ _ _ _ (search needs) (has-at (c .before .before .before .before .before .before .before .args .s .now) (l .k) (l .bound) (c .before .before .byte .ensures) (c .before .holds .ensures)) (c .if2 .taken)))
+    (λ c. let l = c .before .before .before .before .before .loop in l .inv (Fault No.twice) (fresh-twice _ _ _ _ (search needs) (has-at (c .before .before .before .before .before .before .before .args .s .now) (l .k) (l .bound) (c .before .before .byte .ensures) (c .before .holds .ensures)) (c .if2 .taken)))
     (λ c κs. search needs)
     (λ c. search needs)
     (λ c. search needs)

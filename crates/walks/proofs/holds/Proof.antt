@@ -1,8 +1,9 @@
 -- `walks::holds` meets its contract.
-use Rattle.model.specs.Sets.{has}
-use native.Mathlib.Omega.{arith}
 use mathlib.Core.Path.{refl}
+use native.Mathlib.Omega.{arith}
 use borrow.Author.Needs.{needs}
+use Rattle.model.specs.Sets.{has}
+use Rattle.words.proofs.Sets.{has-none}
 use Rattle.walks.proofs.holds.Statement.{statement}
 use Rattle.walks.proofs.holds.Tie as tie
 
@@ -12,5 +13,5 @@ holds-spec =
     tie.close
     (tie.spec
     (λ c. search needs)
-    (λ c. λ _. refl)
-    (λ c. λ h. absurd (omega arith)))
+    (λ c. refl)
+    (λ c. let a = c .before .args in has-none 16 (a .set) (a .x) (search needs) (search needs)))
