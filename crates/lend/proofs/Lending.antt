@@ -1,0 +1,123 @@
+-- What is lent: the doors' answers, test by test; and what a call knows whose door answered.
+use Prim.Native.Nat.{ℕ}
+use mathlib.Core.Path.{_≡_, refl, sym, _∙_, ap, subst}
+use mathlib.Core.Bool.{Bool, true, false}
+use mathlib.Core.List.{List}
+use lib.Dec.{eqb}
+use lib.IntN.{ℤ}
+use lib.ListN.{length}
+use Rattle.model.specs.Numbers as No
+use Rattle.model.specs.Answers.{Refusal, Answer, with, outcome}
+use Rattle.model.specs.Syntax.{Program}
+use Rattle.model.specs.Pool.{poolWords, wordsOf, isPool, arePool}
+use Rattle.model.specs.Calls.{Lent, read, measured, valid, lentWords, lent}
+use Rattle.model.proofs.Facts.{refused-given, eq-eqb, ne-eqb, eqb-true}
+use Rattle.model.proofs.Words.{with-given, test-given, lent-given}
+use Rattle.answers.specs.declared.Answer as Code
+use Rattle.answers.specs.declared.Answer.the-variants.{Given, Refused}
+use Rattle.answers.specs.declared.Refusal as Why
+use Rattle.answers.specs.declared.Refusal.the-variants.{Plain}
+use Rattle.answers.specs.Answers.{refusalOf, answerOf}
+use Rattle.places.specs.Places.{Places}
+use Rattle.table.specs.Reading.{PlacedBy, ReadAs}
+use Rattle.judge.specs.Judged.{JudgesPool}
+use Rattle.lend.specs.Lent.{LendsWords, LendsPool}
+
+-- whether something is given, and what it is then
+module _ {A : Type 0} where
+  outcome-refused : (a : Answer A) {x : Refusal} → Answer.refused x ≡ outcome a → a ≡ Answer.refused x
+  unfolding outcome
+  outcome-refused (Answer.given b) e = refused-given e
+  outcome-refused (Answer.refused y) {x} e = let h : y ≡ x = cc in ap (λ (z : Refusal). Answer.refused z) h
+
+  outcome-given : (a : Answer A) → Answer.given tt ≡ outcome a → (b : A) × (a ≡ Answer.given b)
+  unfolding outcome
+  outcome-given (Answer.given b) e = (b, refl)
+  outcome-given (Answer.refused r) e = refused-given (sym e)
+
+-- the first door: reading, and the words' number
+module _ (s places : List ℕ) (ws : List ℤ) (r : Code.Answer) (h : ReadAs s places r) where
+  pub words-unread : (x : Why.Refusal) → r ≡ Refused x → LendsWords s ws places (Refused x)
+  unfolding lentWords with
+  words-unread x z = record { answer = rw (outcome-refused (read s) (ap answerOf (sym z) ∙ h .answer)) refl; placed = h .placed }
+
+  module _ (z : r ≡ Given) where
+    was-read : (P : Program) × (read s ≡ Answer.given P)
+    was-read = outcome-given (read s) (ap answerOf (sym z) ∙ h .answer)
+
+    pub words-given : length ws ≡ poolWords → LendsWords s ws places Given
+    unfolding lentWords with measured
+    words-given n = record { answer = rw (was-read .1, eq-eqb (length ws) poolWords n) refl; placed = h .placed }
+
+    pub words-refused : (length ws ≡ poolWords → ⊥) → LendsWords s ws places (Refused (Plain No.words))
+    unfolding lentWords with measured
+    words-refused n = record { answer = rw (was-read .1, ne-eqb (length ws) poolWords n) refl; placed = h .placed }
+
+-- the second door: the words' number, and the pool
+unmeasured : (ws : List ℤ) (x : Refusal) (a : Answer Program) (m : Answer (Unit {0}))
+    → Answer.refused x ≡ with a (λ P. m) → Answer.refused x ≡ outcome (with a (λ P. with m (λ _. valid P ws)))
+unfolding outcome with
+unmeasured ws x (Answer.given P) (Answer.given u) e = refused-given e
+unmeasured ws x (Answer.given P) (Answer.refused y) e = e
+unmeasured ws x (Answer.refused y) m e = e
+
+module _ (s places : List ℕ) (ws : List ℤ) (r : Code.Answer) (h : LendsWords s ws places r) where
+  pub refused-words : (x : Why.Refusal) → r ≡ Refused x → lentWords s ws ≡ Answer.refused (refusalOf x)
+  refused-words x z = sym (h .answer) ∙ ap answerOf z
+
+  pub pool-unlent : (x : Why.Refusal) → r ≡ Refused x → LendsPool s ws places (Refused x)
+  unfolding lentWords lent
+  pool-unlent x z =
+      record { answer = unmeasured ws (refusalOf x) (read s) (measured ws) (ap answerOf (sym z) ∙ h .answer); placed = h .placed }
+
+  module _ (z : r ≡ Given) where
+    pub given-words : lentWords s ws ≡ Answer.given tt
+    given-words = sym (h .answer) ∙ ap answerOf z
+
+    parts : (P : Program) × (read s ≡ Answer.given P) × (measured ws ≡ Answer.given tt)
+    unfolding lentWords
+    parts = with-given (read s) (λ P. measured ws) given-words
+
+    pub long-words : length ws ≡ poolWords
+    unfolding measured
+    long-words = eqb-true (length ws) poolWords (test-given (eqb (length ws) poolWords) tt (Refusal.plain No.words) (parts .2) .0)
+
+    module _ (b : Bool) (j : JudgesPool s places ws b) where
+      judged : b ≡ arePool (parts .0) ws
+      unfolding PlacedBy
+      judged = j (parts .0) (subst (PlacedBy s places) (parts .1) (h .placed))
+
+      pub pool-given : b ≡ true → LendsPool s ws places Given
+      unfolding lent with valid outcome
+      pool-given y = record { answer = rw (parts .1, parts .2, ← judged, y) refl; placed = h .placed }
+
+      pub pool-refused : b ≡ false → LendsPool s ws places (Refused (Plain No.pool))
+      unfolding lent with valid outcome
+      pool-refused y = record { answer = rw (parts .1, parts .2, ← judged, y) refl; placed = h .placed }
+
+-- what is lent, to a call whose door answered that it is
+pub record Lending (s places : List ℕ) (ws : List ℤ) : Type 0 where
+  pub what : Lent
+  pub is : lent s ws ≡ Answer.given what
+  pub table : Places s (what .table) places
+  pub words : ws ≡ wordsOf (what .pool)
+  pub valid : isPool (what .table) (what .pool) ≡ true
+  pub long : length ws ≡ poolWords
+
+module _ (s places : List ℕ) (ws : List ℤ) (r : Code.Answer) (h : LendsPool s ws places r) where
+  pub refused-pool : (x : Why.Refusal) → r ≡ Refused x → lent s ws ≡ Answer.refused (refusalOf x)
+  refused-pool x z = outcome-refused (lent s ws) (ap answerOf (sym z) ∙ h .answer)
+
+  pub given-pool : r ≡ Given → Lending s places ws
+  unfolding PlacedBy
+  given-pool z =
+      let (l, e) = outcome-given (lent s ws) (ap answerOf (sym z) ∙ h .answer) in
+      let i = lent-given s ws l e in
+      record {
+        what = l;
+        is = e;
+        table = subst (PlacedBy s places) (i .reads) (h .placed);
+        words = sym (i .words);
+        valid = i .valid;
+        long = i .long;
+      }
