@@ -1,2 +1,2 @@
-pub mod Lending
 pub mod Few
+pub mod Lent

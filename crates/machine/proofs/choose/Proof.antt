@@ -1,21 +1,64 @@
+-- `machine::choose` meets its contract.
 use borrow.Author.Needs.{needs}
-use denote.Ref.{now}
-use Rattle.machine.proofs.Lending.{reads-fine, reads-size, reads-version, reads-form, lent-unread, choose-refused}
+use Rattle.lend.proofs.Lending.{refused-pool, given-pool}
+use Rattle.machine.proofs.Lent.{choose-refused, choose-given}
 use Rattle.machine.proofs.choose.Statement.{statement}
 use Rattle.machine.proofs.choose.Tie as tie
+
+pool-requires : tie.Need-pool-requires
+pool-requires c κs = search needs
+
+enum-known-why : tie.Need-enum-known-why
+enum-known-why c = search needs
+
+enum-told : tie.Need-enum-told
+enum-told c = search needs
+
+choice-requires : tie.Need-choice-requires
+choice-requires c κs =
+    let told = c .before .before in
+    let pool = told .before .before .pool in
+    given-pool _ _ _ (pool .result) (pool .ensures) (told .enum-told .given .1) .long
+
+enum-known-rule : tie.Need-enum-known-rule
+enum-known-rule c = search needs
+
+enum-known-number : tie.Need-enum-known-number
+enum-known-number c = search needs
+
+same-length : tie.Need-same-length
+same-length c = search needs
+
+returns : tie.Need-returns
+returns c =
+    let told = c .before in
+    let pool = told .before .before .pool in
+    choose-refused _ _ (refused-pool _ _ _ (pool .result) (pool .ensures) _ (told .why .given .1)) _ _
+
+same-length-2 : tie.Need-same-length-2
+same-length-2 c = search needs
+
+returns-2 : tie.Need-returns-2
+returns-2 c =
+    let choice = c .before .before .before .before in
+    let told = choice .before .before .before in
+    let pool = told .before .before .pool in
+    choose-given _ _ _ (given-pool _ _ _ (pool .result) (pool .ensures) (told .enum-told .given .1)) _ _ (choice .choice .result) _ _
+    (choice .choice .ensures) (c .before .rule .given .1)
+
+same-length-3 : tie.Need-same-length-3
+same-length-3 c = search needs
+
+returns-3 : tie.Need-returns-3
+returns-3 c =
+    let choice = c .before .before .before .before in
+    let told = choice .before .before .before in
+    let pool = told .before .before .pool in
+    choose-given _ _ _ (given-pool _ _ _ (pool .result) (pool .ensures) (told .enum-told .given .1)) _ _ (choice .choice .result) _ _
+    (choice .choice .ensures) (c .before .number .given .1)
 
 pub choose-spec : {M : Type 1} → statement M
 choose-spec =
     tie.close
-    (tie.spec
-    (λ c κs. search needs)
-    (λ c. search needs)
-    (λ c κs. search needs)
-    (λ c. search needs)
-    (λ c. search needs)
-    (λ c. search needs)
-    (λ c. search needs)
-    (λ c. let R = reads-fine (now (c .before .before .before .before .before .before .before .before .before .args .table)) (c .before .before .before .before .before .before .read .result) (c .before .before .before .before .before .before .read .ensures .0) _ (c .before .before .before .before .enum-told .given .1) (c .before .before .before .before .before .before .read .ensures .1) in c .before .choose-on .ensures (R .program) (R .places) (R .is))
-    (λ c. choose-refused _ _ _ (lent-unread _ _ _ (reads-size (now (c .before .before .before .before .before .args .table)) (c .before .before .read .result) (c .before .before .read .ensures .0) (c .enum-told2 .given .1))) _ _)
-    (λ c. choose-refused _ _ _ (lent-unread _ _ _ (reads-version (now (c .before .before .before .before .before .args .table)) (c .before .before .read .result) (c .before .before .read .ensures .0) (c .enum-told3 .given .1))) _ _)
-    (λ c. choose-refused _ _ _ (lent-unread _ _ _ (reads-form (now (c .before .before .before .before .before .before .args .table)) (c .before .before .before .read .result) (c .before .before .before .read .ensures .0) _ (c .before .at .given .1))) _ _))
+    (tie.spec pool-requires enum-known-why enum-told choice-requires enum-known-rule enum-known-number
+    same-length returns same-length-2 returns-2 same-length-3 returns-3)

@@ -1,21 +1,44 @@
+-- `machine::start` meets its contract.
 use borrow.Author.Needs.{needs}
-use denote.Ref.{now}
-use Rattle.machine.proofs.Lending.{reads-fine, reads-size, reads-version, reads-form, start-read, start-unread}
+use Rattle.lend.proofs.Lending.{refused-words, given-words, long-words}
+use Rattle.machine.proofs.Lent.{start-refused, start-given}
 use Rattle.machine.proofs.start.Statement.{statement}
 use Rattle.machine.proofs.start.Tie as tie
+
+words-requires : tie.Need-words-requires
+words-requires c κs = search needs
+
+enum-known-why : tie.Need-enum-known-why
+enum-known-why c = search needs
+
+enum-told : tie.Need-enum-told
+enum-told c = search needs
+
+start-pool-requires : tie.Need-start-pool-requires
+start-pool-requires c κs =
+    let told = c .before in
+    let words = told .before .before .words in
+    long-words _ _ _ (words .result) (words .ensures) (told .enum-told .given .1)
+
+same-length : tie.Need-same-length
+same-length c = search needs
+
+returns : tie.Need-returns
+returns c =
+    let told = c .before in
+    let words = told .before .before .words in
+    start-refused _ _ (refused-words _ _ _ (words .result) (words .ensures) _ (told .why .given .1))
+
+same-length-2 : tie.Need-same-length-2
+same-length-2 c = search needs
+
+returns-2 : tie.Need-returns-2
+returns-2 c =
+    let told = c .before .before .before in
+    let words = told .before .before .words in
+    start-given _ _ (given-words _ _ _ (words .result) (words .ensures) (told .enum-told .given .1)) (c .before .start-pool .ensures)
 
 pub start-spec : {M : Type 1} → statement M
 start-spec =
     tie.close
-    (tie.spec
-    (λ c κs. search needs)
-    (λ c. search needs)
-    (λ c κs. search needs)
-    (λ c. search needs)
-    (λ c. search needs)
-    (λ c. search needs)
-    (λ c. search needs)
-    (λ c. let R = reads-fine (now (c .before .before .before .before .before .before .before .before .args .table)) (c .before .before .before .before .before .read .result) (c .before .before .before .before .before .read .ensures .0) _ (c .before .before .before .enum-told .given .1) (c .before .before .before .before .before .read .ensures .1) in start-read _ _ (R .is) (c .before .begin .ensures))
-    (λ c. start-unread _ _ _ (reads-size (now (c .before .before .before .before .before .args .table)) (c .before .before .read .result) (c .before .before .read .ensures .0) (c .enum-told2 .given .1)))
-    (λ c. start-unread _ _ _ (reads-version (now (c .before .before .before .before .before .args .table)) (c .before .before .read .result) (c .before .before .read .ensures .0) (c .enum-told3 .given .1)))
-    (λ c. start-unread _ _ _ (reads-form (now (c .before .before .before .before .before .before .args .table)) (c .before .before .before .read .result) (c .before .before .before .read .ensures .0) _ (c .before .at .given .1))))
+    (tie.spec words-requires enum-known-why enum-told start-pool-requires same-length returns same-length-2 returns-2)

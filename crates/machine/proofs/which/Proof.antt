@@ -1,20 +1,54 @@
+-- `machine::which` meets its contract.
 use borrow.Author.Needs.{needs}
-use denote.Ref.{now}
-use Rattle.machine.proofs.Lending.{reads-fine, reads-size, reads-version, reads-form, lent-unread, which-refused}
+use Rattle.lend.proofs.Lending.{refused-pool, given-pool}
+use Rattle.machine.proofs.Lent.{which-refused, which-thread, which-nobody}
 use Rattle.machine.proofs.which.Statement.{statement}
 use Rattle.machine.proofs.which.Tie as tie
+
+pool-requires : tie.Need-pool-requires
+pool-requires c κs = search needs
+
+enum-known-why : tie.Need-enum-known-why
+enum-known-why c = search needs
+
+enum-told : tie.Need-enum-told
+enum-told c = search needs
+
+can-step-requires : tie.Need-can-step-requires
+can-step-requires c κs =
+    let told = c .before in
+    let pool = told .before .before .pool in
+    given-pool _ _ _ (pool .result) (pool .ensures) (told .enum-told .given .1) .long
+
+enum-known-i : tie.Need-enum-known-i
+enum-known-i c = search needs
+
+enum-told-2 : tie.Need-enum-told-2
+enum-told-2 c = search needs
+
+returns : tie.Need-returns
+returns c =
+    let told = c .before in
+    let pool = told .before .before .pool in
+    which-refused _ _ (refused-pool _ _ _ (pool .result) (pool .ensures) _ (told .why .given .1))
+
+returns-2 : tie.Need-returns-2
+returns-2 c =
+    let found = c .before .before .before in
+    let told = found .before .before in
+    let pool = told .before .before .pool in
+    which-thread _ _ _ (given-pool _ _ _ (pool .result) (pool .ensures) (told .enum-told .given .1)) (found .can-step .result)
+    (found .can-step .ensures) _ (c .before .i .given .1)
+
+returns-3 : tie.Need-returns-3
+returns-3 c =
+    let found = c .before .before in
+    let told = found .before .before in
+    let pool = told .before .before .pool in
+    which-nobody _ _ _ (given-pool _ _ _ (pool .result) (pool .ensures) (told .enum-told .given .1)) (found .can-step .result)
+    (found .can-step .ensures) (c .enum-told2 .given .1)
 
 pub which-spec : {M : Type 1} → statement M
 which-spec =
     tie.close
-    (tie.spec
-    (λ c κs. search needs)
-    (λ c. search needs)
-    (λ c κs. search needs)
-    (λ c. search needs)
-    (λ c. search needs)
-    (λ c. search needs)
-    (λ c. let R = reads-fine (now (c .before .before .before .before .before .before .before .args .table)) (c .before .before .before .before .read .result) (c .before .before .before .before .read .ensures .0) _ (c .before .before .enum-told .given .1) (c .before .before .before .before .read .ensures .1) in c .which-on .ensures (R .program) (R .places) (R .is))
-    (λ c. which-refused _ _ _ (lent-unread _ _ _ (reads-size (now (c .before .before .before .before .before .args .table)) (c .before .before .read .result) (c .before .before .read .ensures .0) (c .enum-told2 .given .1))))
-    (λ c. which-refused _ _ _ (lent-unread _ _ _ (reads-version (now (c .before .before .before .before .before .args .table)) (c .before .before .read .result) (c .before .before .read .ensures .0) (c .enum-told3 .given .1))))
-    (λ c. which-refused _ _ _ (lent-unread _ _ _ (reads-form (now (c .before .before .before .before .before .before .args .table)) (c .before .before .before .read .result) (c .before .before .before .read .ensures .0) _ (c .before .at .given .1)))))
+    (tie.spec pool-requires enum-known-why enum-told can-step-requires enum-known-i enum-told-2 returns returns-2 returns-3)
