@@ -21,10 +21,10 @@ use Rattle.model.proofs.Facts.{past-at}
 use Rattle.places.specs.declared.Place.the-variants.{At, Nowhere}
 use Rattle.places.specs.Places.{FindsBlock}
 use Rattle.bytes.specs.Bytes.{byteAt, past}
-use Rattle.eval.specs.Code.{countAt, argumentsAt, statementsEnd, headEnd, transferOf, transferAt}
+use Rattle.eval.specs.Code.{countAt, argumentsAt, statementsEnd, headEnd, transferOf, transferAt, Codes}
 use Rattle.eval.specs.Given.{lookedIn}
 use Rattle.eval.proofs.Lists.{count-bound}
-use Rattle.eval.proofs.Decoding.{Codes, block-codes}
+use Rattle.eval.proofs.Decoding.{block-codes}
 use Rattle.rules.specs.declared.Ended.{Ended}
 use Rattle.rules.specs.declared.Ended.the-variants.{Gives, Runs}
 use Rattle.rules.specs.Acts.{Ending, Giving}

@@ -30,10 +30,10 @@ use Rattle.places.specs.declared.Place.the-variants.{At, Nowhere}
 use Rattle.places.specs.Places.{spawnIn, Places, FindsBlock, FindsSpawn}
 use Rattle.bytes.specs.Bytes.{byteAt, past}
 use Rattle.eval.specs.declared.Evaluated.{Evaluated}
-use Rattle.eval.specs.Code.{most, countAt, argumentsAt, listEnd, expressionAt, expressionEnd, statementAt, statementsEnd, headEnd, transferOf, transferAt}
+use Rattle.eval.specs.Code.{most, countAt, argumentsAt, listEnd, expressionAt, expressionEnd, statementAt, statementsEnd, headEnd, transferOf, transferAt, Codes}
 use Rattle.eval.specs.Given.{optional, Evaluates, lookedIn}
 use Rattle.eval.proofs.Lists.{count-bound}
-use Rattle.eval.proofs.Decoding.{Codes, block-codes}
+use Rattle.eval.proofs.Decoding.{block-codes}
 use Rattle.rules.specs.declared.Acted.{Acted}
 use Rattle.rules.specs.declared.Does.{Does}
 use Rattle.rules.specs.declared.Does.the-variants.{Bind, Enter, Open, Close, Push, Pop, Join}

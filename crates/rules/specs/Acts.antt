@@ -20,8 +20,7 @@ use Rattle.places.specs.Places.{Places}
 use Rattle.bytes.specs.Bytes.{byteAt, past}
 use Rattle.eval.specs.declared.Evaluated.{Evaluated}
 use Rattle.eval.specs.Given.{optional}
-use Rattle.eval.specs.Code.{most, countAt, argumentsAt, transferAt}
-use Rattle.eval.proofs.Decoding.{Codes}
+use Rattle.eval.specs.Code.{most, countAt, argumentsAt, transferAt, Codes}
 use Rattle.rules.specs.declared.Acted.{Acted}
 use Rattle.rules.specs.declared.Ended.{Ended}
 use Rattle.rules.specs.declared.Ended.the-variants.{Gives, Runs}
