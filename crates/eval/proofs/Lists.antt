@@ -120,32 +120,30 @@ module _ (k : Pool.Frame) where
           → (none ≡ lookAll k (run s p₀ n)) × (out ≡ filled k (run s p₀ n) out₀)
       read-stops v l e₁ e₂ t =
           let none-v : look k (byteAt s p) ≡ none = ap (look k) (sym e₁) ∙ value-none v _ e₂ (not-true (v .ok) t) in
-          let rest : List ℕ = run s (past p 1) (n - (i + 1)) in
-          (
+          let rest : List ℕ = run s (past p 1) (n - (i + 1)) in (
             sym
-            (h .is
-            ∙ ap (λ (x̄ : List ℕ). ahead (take i out) (lookAll k x̄)) (run-goes s p n i l)
-            ∙ look-none (byteAt s p) rest (take i out) none-v),
+                (h .is
+                ∙ ap (λ (x̄ : List ℕ). ahead (take i out) (lookAll k x̄)) (run-goes s p n i l)
+                ∙ look-none (byteAt s p) rest (take i out) none-v),
             filled-is k (run s p₀ n) out₀ out i (omega (arith, h .few, h .room))
-            (h .front
-            ∙ ap (λ (x̄ : List ℕ). take i out ++ boundPart k x̄) (run-goes s p n i l)
-            ∙ ap (λ (v̄ : List ℤ). take i out ++ v̄) (bound-none k (byteAt s p) rest none-v)
-            ∙ append-nil (take i out))
-            (h .back),
+                (h .front
+                ∙ ap (λ (x̄ : List ℕ). take i out ++ boundPart k x̄) (run-goes s p n i l)
+                ∙ ap (λ (v̄ : List ℤ). take i out ++ v̄) (bound-none k (byteAt s p) rest none-v)
+                ∙ append-nil (take i out))
+                (h .back),
           )
 
       read-ends : n ≤ i → (some (take n out) ≡ lookAll k (run s p₀ n)) × (out ≡ filled k (run s p₀ n) out₀)
       unfolding lookAll ahead boundPart
       read-ends l =
-          let e : i ≡ n = omega (arith, h .within) in
-          (
+          let e : i ≡ n = omega (arith, h .within) in (
             sym
-            (h .is
-            ∙ ap (λ (x̄ : List ℕ). ahead (take i out) (lookAll k x̄)) (run-ends s p n i l)
-            ∙ ap some (append-nil (take i out) ∙ ap (λ (j : ℕ). take j out) e)),
+                (h .is
+                ∙ ap (λ (x̄ : List ℕ). ahead (take i out) (lookAll k x̄)) (run-ends s p n i l)
+                ∙ ap some (append-nil (take i out) ∙ ap (λ (j : ℕ). take j out) e)),
             filled-is k (run s p₀ n) out₀ out i (omega (arith, h .few, h .room))
-            (h .front ∙ ap (λ (x̄ : List ℕ). take i out ++ boundPart k x̄) (run-ends s p n i l) ∙ append-nil (take i out))
-            (h .back),
+                (h .front ∙ ap (λ (x̄ : List ℕ). take i out ++ boundPart k x̄) (run-ends s p n i l) ∙ append-nil (take i out))
+                (h .back),
           )
 
 -- the temporaries of an argument list are a run: what the code answers of them
