@@ -7,14 +7,14 @@ use mathlib.Core.List.{List, [], _∷_}
 use native.Mathlib.Nat.{min-eq-left}
 use native.Mathlib.Omega.{arith}
 use lib.Dec.{eqb}
-use lib.ListN.{length, getD, getElem?}
+use lib.ListN.{length, getD}
 use Rattle.model.specs.Values.{signed}
 use Rattle.model.specs.Syntax.{Atom, Expression, Statement, Transfer, Head, Block, SpawnCall, Function}
 use Rattle.model.specs.Read as Read
 use Rattle.model.specs.Read.{Parsed, Parser, byte, many, counted, pick}
 use Rattle.model.proofs.Reading.{bad-ok, ok-value, ok-offset, next-ok, byte-ok, many-uncons, many-item, counted-ok}
 use Rattle.bytes.specs.Bytes.{byteAt, past, halfAt, wordAt, operands}
-use Rattle.eval.specs.Code.{run, countAt, argumentsAt, listEnd, atomOf, atomAt, atomEnd, expressionOf, secondAt, expressionAt, expressionEnd, statementAt, statementEnd, statementsEnd, headEnd, transferOf, transferAt}
+use Rattle.eval.specs.Code.{run, countAt, argumentsAt, listEnd, atomOf, atomAt, atomEnd, expressionOf, secondAt, expressionAt, expressionEnd, statementAt, statementEnd, statementsEnd, headEnd, transferOf, transferAt, Codes}
 use Rattle.model.proofs.Guarantees.{Gives, gives-then, gives-pure}
 use Rattle.bytes.proofs.Offsets.{past-in}
 use Rattle.bytes.proofs.Numbers.{half-ok, word-ok}
@@ -263,12 +263,7 @@ head-inside : (s : List ℕ) (at : ℕ) (h : Head) (k : ℕ) → Read.head s at 
 unfolding Read.head
 head-inside s at h k e = let t = next-ok (Read.arguments s at) _ e in arguments-inside s at _ _ (t .first)
 
--- what code finds of a block at the number of its statements: their number, each of them, and the transfer
-pub record Codes (s : List ℕ) (at : ℕ) (B : Block) : Type 0 where
-  pub count : length (B .code) ≡ byteAt s at
-  pub items : (i : ℕ) → i < length (B .code) → getElem? (B .code) i ≡ some (statementAt s (statementsEnd s (past at 1) i))
-  pub transfer : B .transfer ≡ transferAt s (statementsEnd s (past at 1) (byteAt s at))
-
+-- a block's parameters, and its code
 pub block-codes : (s : List ℕ) (at : ℕ) (B : Block) (k : ℕ) → length s < 2 ^ 64 → Read.block s at ≡ Parsed.ok B k → (B .head .parameters ≡ argumentsAt s at) × Codes s (headEnd s at) B
 unfolding Read.block
 block-codes s at B k short e =

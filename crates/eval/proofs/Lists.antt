@@ -13,7 +13,7 @@ use mir.Facts.{toZ-ofZ}
 use mir.Syntax.{w32}
 use lib.IntN.{ℤ, pos}
 use lib.ListN.{length, getD, take, drop, set, length-set}
-use lib.Seq.{take-suc-set, drop-cons}
+use lib.Seq.{take-suc-set, drop-cons, drop-drop, drop-set-lt, append-snoc}
 use Rattle.model.specs.Lists.{Each}
 use Rattle.model.specs.Pool as Pool
 use Rattle.model.specs.Pool.{temporaries}
@@ -22,8 +22,9 @@ use Rattle.model.specs.Frames.{look, lookAll, bind, bindAll}
 use Rattle.eval.specs.declared.Value.{Value}
 use Rattle.bytes.specs.Bytes.{byteAt, past}
 use Rattle.eval.specs.Code.{run, countAt, argumentsAt, statementEnd, statementsEnd}
-use Rattle.eval.specs.Given.{valueOf, lookedIn}
+use Rattle.eval.specs.Given.{valueAs, boundPart, filled, Looks}
 use Rattle.eval.proofs.Leaves.{count-le, value-none, value-some}
+use Rattle.eval.proofs.Buffers.{bound-cons, bound-none, filled-is}
 
 -- statements: one passed
 pub statements-goes : (s : List ℕ) (at n : ℕ) → 0 < n → statementsEnd s at n ≡ statementsEnd s (statementEnd s at) (n - 1)
@@ -69,22 +70,27 @@ module _ (k : Pool.Frame) where
   unfolding lookAll ahead
   look-none x x̄ v̄ e = rw e
 
-  module _ (s : List ℕ) (p₀ n : ℕ) where
+  module _ (s : List ℕ) (p₀ n : ℕ) (out₀ : List ℤ) where
     -- what is read so far, of a list of temporaries
     pub record Read (out : List ℤ) (p i : ℕ) : Type 0 where
       pub within : i ≤ n
       pub few : n ≤ 8
       pub room : length out ≡ 8
       pub is : lookAll k (run s p₀ n) ≡ ahead (take i out) (lookAll k (run s p (n - i)))
+      pub front : boundPart k (run s p₀ n) ≡ take i out ++ boundPart k (run s p (n - i))
+      pub back : drop i out ≡ drop i out₀
 
-    pub read-starts : (out : List ℤ) → n ≤ 8 → length out ≡ 8 → Read out p₀ 0
-    read-starts out h l =
-        record { within = omega arith; few = h; room = l; is = let e : n - 0 ≡ n = omega arith in rw e (ahead-nil (lookAll k (run s p₀ n))) }
+    pub read-starts : n ≤ 8 → length out₀ ≡ 8 → Read out₀ p₀ 0
+    read-starts h l =
+        let e : n - 0 ≡ n = omega arith in
+        record { within = omega arith; few = h; room = l; is = rw e (ahead-nil (lookAll k (run s p₀ n))); front = rw e; back = refl }
 
-    pub read-goes : (out : List ℤ) (p i : ℕ) (v : Value) {x q : ℕ} → Read out p i → i < n → x ≡ byteAt s p → q ≡ past p 1 → valueOf v ≡ look k x → not (v .ok) ≡ false → SFits w32 (v .value)
+    pub read-goes : (out : List ℤ) (p i : ℕ) (v : Value) {x q : ℕ} → Read out p i → i < n → x ≡ byteAt s p → q ≡ past p 1 → v ≡ valueAs (look k x) → not (v .ok) ≡ false → SFits w32 (v .value)
         → Read (set out i (toZ w32 (ofZ w32 (v .value)))) q (i + 1)
     read-goes out p i v h l e₁ e₂ e₃ t f =
-        let front : take (i + 1) (set out i (toZ w32 (ofZ w32 (v .value)))) ≡ take i out ++ (v .value ∷ []) =
+        let some-v : look k (byteAt s p) ≡ some (v .value) = ap (look k) (sym e₁) ∙ value-some v _ e₃ (not-false (v .ok) t) in
+        let rest : List ℕ = run s (past p 1) (n - (i + 1)) in
+        let first : take (i + 1) (set out i (toZ w32 (ofZ w32 (v .value)))) ≡ take i out ++ (v .value ∷ []) =
         rw (toZ-ofZ f, add-one i) (take-suc-set out i (v .value) (omega (arith, h .few, h .room)))
         in
         record {
@@ -94,36 +100,73 @@ module _ (k : Pool.Frame) where
           is =
               h .is
               ∙ ap (λ (x̄ : List ℕ). ahead (take i out) (lookAll k x̄)) (run-goes s p n i l)
-              ∙ look-cons (byteAt s p) (run s (past p 1) (n - (i + 1))) (v .value) (take i out) (ap (look k) (sym e₁) ∙ value-some v _ e₃ (not-false (v .ok) t))
-              ∙ rw (e₂, front);
+              ∙ look-cons (byteAt s p) rest (v .value) (take i out) some-v
+              ∙ rw (e₂, first);
+          front =
+              h .front
+              ∙ ap (λ (x̄ : List ℕ). take i out ++ boundPart k x̄) (run-goes s p n i l)
+              ∙ ap (λ (v̄ : List ℤ). take i out ++ v̄) (bound-cons k (byteAt s p) rest (v .value) some-v)
+              ∙ sym (append-snoc (take i out) (v .value) (boundPart k rest))
+              ∙ rw (e₂, first);
+          back =
+              drop-set-lt (i + 1) out i _ (omega arith)
+              ∙ sym (drop-drop 1 i out)
+              ∙ ap (drop 1) (h .back)
+              ∙ drop-drop 1 i out₀;
         }
 
-    pub read-stops : (out : List ℤ) (p i : ℕ) (v : Value) {x : ℕ} → Read out p i → i < n → x ≡ byteAt s p → valueOf v ≡ look k x → not (v .ok) ≡ true → none ≡ lookAll k (run s p₀ n)
-    read-stops out p i v h l e₁ e₂ t =
-        sym
-        (h .is
-        ∙ ap (λ (x̄ : List ℕ). ahead (take i out) (lookAll k x̄)) (run-goes s p n i l)
-        ∙ look-none (byteAt s p) _ (take i out) (ap (look k) (sym e₁) ∙ value-none v _ e₂ (not-true (v .ok) t)))
+    module _ (out : List ℤ) (p i : ℕ) (h : Read out p i) where
+      read-stops : (v : Value) {x : ℕ} → i < n → x ≡ byteAt s p → v ≡ valueAs (look k x) → not (v .ok) ≡ true
+          → (none ≡ lookAll k (run s p₀ n)) × (out ≡ filled k (run s p₀ n) out₀)
+      read-stops v l e₁ e₂ t =
+          let none-v : look k (byteAt s p) ≡ none = ap (look k) (sym e₁) ∙ value-none v _ e₂ (not-true (v .ok) t) in
+          let rest : List ℕ = run s (past p 1) (n - (i + 1)) in (
+            sym
+                (h .is
+                ∙ ap (λ (x̄ : List ℕ). ahead (take i out) (lookAll k x̄)) (run-goes s p n i l)
+                ∙ look-none (byteAt s p) rest (take i out) none-v),
+            filled-is k (run s p₀ n) out₀ out i (omega (arith, h .few, h .room))
+                (h .front
+                ∙ ap (λ (x̄ : List ℕ). take i out ++ boundPart k x̄) (run-goes s p n i l)
+                ∙ ap (λ (v̄ : List ℤ). take i out ++ v̄) (bound-none k (byteAt s p) rest none-v)
+                ∙ append-nil (take i out))
+                (h .back),
+          )
 
-    pub read-ends : (out : List ℤ) (p i : ℕ) → Read out p i → n ≤ i → some (take n out) ≡ lookAll k (run s p₀ n)
-    unfolding lookAll ahead
-    read-ends out p i h l =
-        let e : i ≡ n = omega (arith, h .within) in
-        sym
-        (h .is
-        ∙ ap (λ (x̄ : List ℕ). ahead (take i out) (lookAll k x̄)) (run-ends s p n i l)
-        ∙ ap some (append-nil (take i out) ∙ ap (λ (j : ℕ). take j out) e))
+      read-ends : n ≤ i → (some (take n out) ≡ lookAll k (run s p₀ n)) × (out ≡ filled k (run s p₀ n) out₀)
+      unfolding lookAll ahead boundPart
+      read-ends l =
+          let e : i ≡ n = omega (arith, h .within) in (
+            sym
+                (h .is
+                ∙ ap (λ (x̄ : List ℕ). ahead (take i out) (lookAll k x̄)) (run-ends s p n i l)
+                ∙ ap some (append-nil (take i out) ∙ ap (λ (j : ℕ). take j out) e)),
+            filled-is k (run s p₀ n) out₀ out i (omega (arith, h .few, h .room))
+                (h .front ∙ ap (λ (x̄ : List ℕ). take i out ++ boundPart k x̄) (run-ends s p n i l) ∙ append-nil (take i out))
+                (h .back),
+          )
 
 -- the temporaries of an argument list are a run: what the code answers of them
 pub arguments-are : (s : List ℕ) (at : ℕ) {p n : ℕ} → p ≡ past at 1 → n ≡ countAt s at → run s p n ≡ argumentsAt s at
 unfolding argumentsAt
 arguments-are s at e d = rw (e, d)
 
-pub arguments-unbound : (k : Pool.Frame) (s : List ℕ) (at : ℕ) {p₀ n x : ℕ} (out : List ℤ) (p i : ℕ) (v : Value) → p₀ ≡ past at 1 → n ≡ countAt s at → Read k s p₀ n out p i → i < n → x ≡ byteAt s p → valueOf v ≡ look k x → not (v .ok) ≡ true → none ≡ lookAll k (argumentsAt s at)
-arguments-unbound k s at {p₀} {n} out p i v e d h l e₁ e₂ t = read-stops k s p₀ n out p i v h l e₁ e₂ t ∙ ap (lookAll k) (arguments-are s at e d)
+module _ (k : Pool.Frame) (s : List ℕ) (at : ℕ) {p₀ n : ℕ} {out₀ : List ℤ} (out : List ℤ) (p i : ℕ) (e : p₀ ≡ past at 1)
+    (d : n ≡ countAt s at) (h : Read k s p₀ n out₀ out p i) where
+  pub arguments-unbound : {x : ℕ} (v : Value) → i < n → x ≡ byteAt s p → v ≡ valueAs (look k x) → not (v .ok) ≡ true → Looks k s at out₀ false out
+  arguments-unbound v l e₁ e₂ t =
+      let (q, r) = read-stops k s p₀ n out₀ out p i h v l e₁ e₂ t in
+      let a = arguments-are s at e d in
+      record { is = q ∙ ap (lookAll k) a; left = r ∙ ap (λ (x̄ : List ℕ). filled k x̄ out₀) a }
 
-pub arguments-bound : (k : Pool.Frame) (s : List ℕ) (at : ℕ) {p₀ n : ℕ} (out : List ℤ) (p i : ℕ) → p₀ ≡ past at 1 → n ≡ countAt s at → Read k s p₀ n out p i → n ≤ i → lookedIn s at true out ≡ lookAll k (argumentsAt s at)
-arguments-bound k s at {p₀} {n} out p i e d h l = ap (λ (j : ℕ). some (take j out)) (sym d) ∙ read-ends k s p₀ n out p i h l ∙ ap (lookAll k) (arguments-are s at e d)
+  pub arguments-bound : n ≤ i → Looks k s at out₀ true out
+  arguments-bound l =
+      let (q, r) = read-ends k s p₀ n out₀ out p i h l in
+      let a = arguments-are s at e d in
+      record {
+        is = ap (λ (j : ℕ). some (take j out)) (sym d) ∙ q ∙ ap (lookAll k) a;
+        left = r ∙ ap (λ (x̄ : List ℕ). filled k x̄ out₀) a;
+      }
 
 pub count-bound : (s : List ℕ) (at : ℕ) {n : ℕ} → n ≡ countAt s at → n ≤ 8
 count-bound s at e = rw e (count-le s at)

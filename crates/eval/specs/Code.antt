@@ -1,13 +1,16 @@
 -- What stands at an offset of a table, whatever the bytes are: what code that reads in place finds there. Where the table reads,
 -- these are what was read.
-use Prim.Native.Nat.{ℕ, zero, suc, min}
+use Prim.Native.Nat.{ℕ, zero, suc, min, _<_}
+use mathlib.Core.Path.{_≡_}
 use mathlib.Core.Bool.{cond}
+use mathlib.Core.Option.{some}
 use mathlib.Core.List.{List, [], _∷_}
 use lib.Dec.{eqb}
 use lib.IntN.{ℤ}
+use lib.ListN.{length, getElem?}
 use Rattle.bytes.specs.Bytes.{byteAt, past, wordAt, operands}
 use Rattle.model.specs.Values.{signed}
-use Rattle.model.specs.Syntax.{Atom, Expression, Statement, Transfer}
+use Rattle.model.specs.Syntax.{Atom, Expression, Statement, Transfer, Block}
 
 -- n bytes from an offset on
 unfoldable pub run : List ℕ → ℕ → ℕ → List ℕ
@@ -82,3 +85,9 @@ transferOf (suc (suc (suc (suc (suc kind))))) s at = Transfer.spoin (byteAt s at
 
 unfoldable pub transferAt : List ℕ → ℕ → Transfer
 transferAt s at = transferOf (byteAt s at) s (past at 1)
+
+-- what code finds of a block at the number of its statements: their number, each of them, and the transfer
+pub record Codes (s : List ℕ) (at : ℕ) (B : Block) : Type 0 where
+  pub count : length (B .code) ≡ byteAt s at
+  pub items : (i : ℕ) → i < length (B .code) → getElem? (B .code) i ≡ some (statementAt s (statementsEnd s (past at 1) i))
+  pub transfer : B .transfer ≡ transferAt s (statementsEnd s (past at 1) (byteAt s at))

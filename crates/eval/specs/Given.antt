@@ -3,15 +3,16 @@ use Prim.Native.Nat.{ℕ, zero, suc, _<_}
 use mathlib.Core.Bool.{Bool, true, false}
 use mathlib.Core.Path.{_≡_}
 use mathlib.Core.Option.{Option, none, some}
-use mathlib.Core.List.{List, []}
-use lib.IntN.{ℤ}
-use lib.ListN.{take}
+use mathlib.Core.List.{List, [], _∷_}
+use lib.IntN.{ℤ, pos}
+use lib.ListN.{length, take}
 use Rattle.model.specs.Values as Values
-use Rattle.model.specs.Lists.{Each}
+use Rattle.model.specs.Lists.{Each, pad}
 use Rattle.model.specs.Pool.{Frame, temporaries, begin}
-use Rattle.model.specs.Frames.{eval, bindAll}
+use Rattle.model.specs.Frames.{look, lookAll, eval, bindAll}
+use Rattle.words.specs.Runs.{pasted}
 use Rattle.frames.specs.InPlace.{FrameHeld, Became, Bound}
-use Rattle.eval.specs.Code.{countAt, argumentsAt, expressionAt, expressionEnd}
+use Rattle.eval.specs.Code.{most, countAt, argumentsAt, expressionAt, expressionEnd}
 use Rattle.eval.specs.declared.Value.{Value}
 use Rattle.eval.specs.declared.Evaluated.{Evaluated}
 use Rattle.eval.specs.declared.Values.{Values}
@@ -22,13 +23,18 @@ abbrev pub optional : {A : Type 0} → Bool → A → Option A
 optional true a = some a
 optional false a = none
 
-abbrev pub valueOf : Value → Option ℤ
-valueOf v = optional (v .ok) (v .value)
+-- a value, or none, as the code has it: with 0 for none
+unfoldable pub valueAs : Option ℤ → Value
+valueAs none = record { ok = false; value = pos 0 }
+valueAs (some v) = record { ok = true; value = v }
 
--- an expression's value in the frame m, and where an expression ends that has one
-pub record Evaluates (m : Frame) (s : List ℕ) (at : ℕ) (r : Evaluated) : Type 0 where
-  pub is : optional (r .ok) (r .value) ≡ eval m (expressionAt s at)
-  pub end : r .ok ≡ true → r .end ≡ expressionEnd s at
+-- an expression's value and where the expression ends, or none: with 0 for none
+unfoldable pub evaluatedAs : Option ℤ → ℕ → Evaluated
+evaluatedAs none end = record { ok = false; value = pos 0; end = 0 }
+evaluatedAs (some v) end = record { ok = true; value = v; end = end }
+
+abbrev pub Evaluates : Frame → List ℕ → ℕ → Evaluated → Type 0
+Evaluates m s at r = r ≡ evaluatedAs (eval m (expressionAt s at)) (expressionEnd s at)
 
 abbrev pub valuesOf : Values → List ℤ
 valuesOf v = take (v .count) (v .at)
@@ -36,9 +42,35 @@ valuesOf v = take (v .count) (v .at)
 abbrev pub lookedOf : Looked → Option (List ℤ)
 lookedOf l = optional (l .ok) (valuesOf (l .values))
 
+-- values, or none, as the code has them: with 0 behind the last of them, and no values for none
+unfoldable pub valuesAs : List ℤ → Values
+valuesAs v̄ = record { count = length v̄; at = pad most (pos 0) v̄ }
+
+unfoldable pub lookedAs : Option (List ℤ) → Looked
+lookedAs none = record { ok = false; values = valuesAs [] }
+lookedAs (some v̄) = record { ok = true; values = valuesAs v̄ }
+
 -- the values of an argument list, in a buffer, by a flag
 abbrev pub lookedIn : List ℕ → ℕ → Bool → List ℤ → Option (List ℤ)
 lookedIn s at r out = optional r (take (countAt s at) out)
+
+-- X(x̄), up to the first temporary that is not bound
+abbrev pub andOn : Option ℤ → List ℤ → List ℤ
+andOn none v̄ = []
+andOn (some v) v̄ = v ∷ v̄
+
+unfoldable pub boundPart : Frame → List ℕ → List ℤ
+boundPart m [] = []
+boundPart m (x ∷ x̄) = andOn (look m x) (boundPart m x̄)
+
+-- a buffer, with those values over its first words
+unfoldable pub filled : Frame → List ℕ → List ℤ → List ℤ
+filled m x̄ out = pasted out 0 (boundPart m x̄)
+
+-- the values of an argument list in the frame m, by a flag, and what is left in the buffer, whether they are all bound or not
+pub record Looks (m : Frame) (s : List ℕ) (at : ℕ) (out : List ℤ) (r : Bool) (out′ : List ℤ) : Type 0 where
+  pub is : lookedIn s at r out′ ≡ lookAll m (argumentsAt s at)
+  pub left : out′ ≡ filled m (argumentsAt s at) out
 
 -- the value of an expression of a kind, from those of its atoms
 unfoldable pub applied : ℕ → ℤ → ℤ → ℤ

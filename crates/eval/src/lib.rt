@@ -8,24 +8,24 @@ ghost use Rattle.model.specs.Values.{signed};
 ghost use Rattle.model.specs.Frames as Frames;
 ghost use Rattle.model.specs.Pool.{frameWords};
 ghost use Rattle.frames.specs.InPlace.{frameAt};
-ghost use Rattle.eval.specs.Code.{most, countAt, argumentsAt, listEnd, atomAt, atomEnd, expressionEnd, statementEnd, statementsEnd, headEnd};
+ghost use Rattle.eval.specs.Code.{most, countAt, listEnd, atomAt, atomEnd, expressionEnd, statementEnd, statementsEnd, headEnd};
 ghost use Rattle.bytes.specs.Bytes.{wordAt};
-ghost use Rattle.eval.specs.Given.{valueOf, Evaluates, lookedIn, applied, Binds, BindsAll, Begins};
+ghost use Rattle.eval.specs.Given.{valueAs, Evaluates, Looks, applied, Binds, BindsAll, Begins};
 
-// A value, or none.
-pub struct Value {
+// A value, or none: then 0.
+struct Value {
     pub ok: bool,
     pub value: i32,
 }
 
-// An expression's value, or none; and where an expression ends that has one.
+// An expression's value and where the expression ends, or none: then 0.
 pub struct Evaluated {
     pub ok: bool,
     pub value: i32,
     pub end: usize,
 }
 
-// Values: the first of eight, as many as are ever passed on.
+// Values: the first of eight, as many as are ever passed on, and 0 behind them.
 pub struct Values {
     pub count: u8,
     pub at: [i32; Values::MOST],
@@ -35,7 +35,7 @@ impl Values {
     pub const MOST: usize = 8;
 }
 
-// Values, or none.
+// Values, or none: then no values.
 pub struct Looked {
     pub ok: bool,
     pub values: Values,
@@ -49,9 +49,9 @@ fn word(s: &[u8], at: usize) -> i32
 }
 
 // The value of a bound temporary of the frame at k.
-pub fn look(ws: &[i32], k: usize, x: u8) -> Value
+fn look(ws: &[i32], k: usize, x: u8) -> Value
     requires { ⌜ k + frameWords ≤ length (now ws) ⌝ }
-    ensures { λ r. ⌜ valueOf r ≡ Frames.look (frameAt (now (ws .entry)) k) x ⌝ }
+    ensures { λ r. ⌜ r ≡ valueAs (Frames.look (frameAt (now (ws .entry)) k) x) ⌝ }
 {
     if (x as usize) < Pool::TEMPORARIES {
         if (frames::bound(ws, k) >> x) % 2 == 1 {
@@ -70,7 +70,7 @@ pub fn look(ws: &[i32], k: usize, x: u8) -> Value
 // An atom's value, and where the atom ends.
 fn atom(s: &[u8], at: usize, ws: &[i32], k: usize) -> Value
     requires { ⌜ k + frameWords ≤ length (now ws) ⌝ }
-    ensures { λ r. ⌜ valueOf r ≡ Frames.evalAtom (frameAt (now (ws .entry)) k) (atomAt (now (s .entry)) at) ⌝ }
+    ensures { λ r. ⌜ r ≡ valueAs (Frames.evalAtom (frameAt (now (ws .entry)) k) (atomAt (now (s .entry)) at)) ⌝ }
 {
     let first = bytes::after(at, 1);
     if bytes::byte(s, at) == 0 {
@@ -122,7 +122,7 @@ pub fn eval(s: &[u8], at: usize, ws: &[i32], k: usize) -> Evaluated
         return Evaluated {
             ok: false,
             value: 0,
-            end: second,
+            end: 0,
         };
     }
     if bytes::operands(kind as usize) != 2 {
@@ -138,7 +138,7 @@ pub fn eval(s: &[u8], at: usize, ws: &[i32], k: usize) -> Evaluated
         return Evaluated {
             ok: false,
             value: 0,
-            end,
+            end: 0,
         };
     }
     Evaluated {
@@ -193,7 +193,7 @@ pub fn head_end(s: &[u8], at: usize) -> usize
 }
 
 // How many of n values are passed on: 8 at most.
-pub fn few(n: u8) -> u8
+fn few(n: u8) -> u8
     ensures { λ r. ⌜ r ≡ min n most ⌝ }
 {
     if (n as usize) < Values::MOST {
@@ -210,10 +210,10 @@ pub fn count(s: &[u8], at: usize) -> u8
     few(bytes::byte(s, at))
 }
 
-// The values of the temporaries of an argument list, put into a buffer, if all are bound.
+// The values of the temporaries of an argument list, put into a buffer, if all are bound; those before the first that is not.
 pub fn look_all(s: &[u8], at: usize, ws: &[i32], k: usize, out: &mut [i32]) -> bool
     requires { ⌜ (k + frameWords ≤ length (now ws)) × (length (now out) ≡ most) ⌝ }
-    ensures { λ r. ⌜ lookedIn (now (s .entry)) at r (now (out .exit)) ≡ Frames.lookAll (frameAt (now (ws .entry)) k) (argumentsAt (now (s .entry)) at) ⌝ }
+    ensures { λ r. ⌜ Looks (frameAt (now (ws .entry)) k) (now (s .entry)) at (now (out .entry)) r (now (out .exit)) ⌝ }
 {
     let n = count(s, at);
     let mut p = bytes::after(at, 1);

@@ -1,7 +1,7 @@
 -- What a frame returns: nothing, unless its code is at a return with nothing open and its temporaries bound.
 use Prim.Native.Nat.{ℕ, zero, suc, _≤_, _<_}
 use mathlib.Core.Path.{_≡_, refl, sym, ap, subst, _∙_}
-use mathlib.Core.Bool.{Bool, true, false, not}
+use mathlib.Core.Bool.{Bool, true, false, not, cond}
 use mathlib.Core.Option.{Option, none, some}
 use mathlib.Core.List.{List, []}
 use native.Mathlib.Omega.{arith}
@@ -11,25 +11,25 @@ use lib.ListN.{length, getElem?, take}
 use Rattle.model.specs.Numbers as No
 use Rattle.model.specs.Lists.{Snoc, unsnoc, equal}
 use Rattle.model.specs.Values.{same}
-use Rattle.model.specs.Syntax.{Expression, Statement, Block, Program}
+use Rattle.model.specs.Syntax.{Expression, Statement, Transfer, Block, Program}
 use Rattle.model.specs.Pool.{Frame, functionOf, blockOf}
 use Rattle.model.specs.Frames as Frames
 use Rattle.model.specs.Frames.{when, lookAll, eval, goTo, callee}
 use Rattle.model.specs.Rules as Rules
 use Rattle.model.specs.Rules.{by, acts, stmt, goto, branch, if, call, return, spork, closing, spoin, transfer, coming, act, returned}
-use Rattle.model.proofs.Facts.{past-at}
 use Rattle.places.specs.declared.Place.the-variants.{At, Nowhere}
-use Rattle.places.specs.Places.{FindsBlock}
+use Rattle.places.specs.Places.{Places, FindsBlock}
 use Rattle.bytes.specs.Bytes.{byteAt, past}
-use Rattle.eval.specs.Code.{countAt, argumentsAt, statementsEnd, headEnd, transferOf, transferAt}
-use Rattle.eval.specs.Given.{lookedIn}
+use Rattle.eval.specs.Code.{countAt, argumentsAt, statementsEnd, headEnd, transferOf, transferAt, Codes}
+use Rattle.eval.specs.Given.{Looks}
 use Rattle.eval.proofs.Lists.{count-bound}
-use Rattle.eval.proofs.Decoding.{Codes, block-codes}
+use Rattle.eval.proofs.Buffers.{filled-none}
+use Rattle.eval.proofs.Decoding.{block-codes}
 use Rattle.rules.specs.declared.Ended.{Ended}
 use Rattle.rules.specs.declared.Ended.the-variants.{Gives, Runs}
-use Rattle.rules.specs.Acts.{Ending, Giving}
+use Rattle.rules.specs.Acts.{transferBy, nextIn, nextOf, returnsOf, Ending, Giving}
 use Rattle.rules.proofs.Heads.{looked-none, looked-some}
-use Rattle.rules.proofs.Steps.{no-calls, some-calls, kind-is}
+use Rattle.rules.proofs.Steps.{no-calls, some-calls, kind-is, next-transfer, comes-transfer, block-none, block-some}
 
 -- a rule that goes on returns nothing
 by-runs : (rule : ℕ) (o : Option Frame) → returned [] (by rule o) ≡ none
@@ -93,6 +93,15 @@ transfer-runs P m s f (suc (suc (suc zero))) z = absurd (z refl)
 transfer-runs P m s f (suc (suc (suc (suc zero)))) z = by-runs No.spork _
 transfer-runs P m s f (suc (suc (suc (suc (suc kind))))) z = spoin-runs P m _ _
 
+no-returns : (m : Frame) (s : List ℕ) (f kind : ℕ) → (kind ≡ 3 → ⊥) → returnsOf m (some (transferOf kind s f)) ≡ []
+unfolding returnsOf transferOf
+no-returns m s f zero z = refl
+no-returns m s f (suc zero) z = refl
+no-returns m s f (suc (suc zero)) z = refl
+no-returns m s f (suc (suc (suc zero))) z = absurd (z refl)
+no-returns m s f (suc (suc (suc (suc zero)))) z = refl
+no-returns m s f (suc (suc (suc (suc (suc kind))))) z = refl
+
 -- a return: with something open, with a temporary unbound, and with its values
 module _ (m : Frame) (x̄ : List ℕ) where
   return-runs : equal (m .calls) [] ≡ false → returned [] (return m x̄) ≡ none
@@ -112,58 +121,129 @@ module _ (m : Frame) (x̄ : List ℕ) where
   return-gives v̄ e d = rw (d, e)
 
 -- by the code of a block, each with the shape of one of the code's answers
-module _ (s : List ℕ) (m : Frame) (at : ℕ) (out : List ℤ) {n done : ℕ} (e₁ : n ≡ byteAt s at) (e₂ : done ≡ m .done) where
-  pub ending-stmt : done < n → Ending s m at out Runs
-  unfolding coming
-  ending-stmt l =
-      record { few = tt; is = λ P B d. sym (rw (d .items (m .done) (omega (arith, d .count))) (stmt-runs m _)) }
+module _ (s : List ℕ) (m : Frame) (at : ℕ) {n done : ℕ} (e₁ : n ≡ byteAt s at) (e₂ : done ≡ m .done) where
+  pub ending-stmt : (out : List ℤ) → done < n → Ending s m at out Runs out
+  unfolding coming nextIn returnsOf
+  ending-stmt out l =
+      record {
+        few = tt;
+        is = λ P B d. sym (rw (d .items (m .done) (omega (arith, d .count))) (stmt-runs m _));
+        left = λ B d. rw (d .items (m .done) (omega (arith, d .count))) (filled-none m out);
+      }
 
   module _ (l : n ≤ done) {f i kind : ℕ} (e₃ : f ≡ past at 1) (e₄ : i ≡ statementsEnd s f n) (e₅ : kind ≡ byteAt s i) where
-    at-transfer : (P : Program) (B : Block) → Codes s at B → coming P m B (getElem? (B .code) (m .done)) ≡ transfer P m (transferAt s i)
-    unfolding coming
-    at-transfer P B d =
-        let q : statementsEnd s (past at 1) (byteAt s at) ≡ i = rw (← e₁, ← e₃) (sym e₄) in
-        rw (past-at (B .code) (m .done) (omega (arith, d .count))) (ap (transfer P m) (d .transfer ∙ rw q))
+    here : i ≡ statementsEnd s (past at 1) (byteAt s at)
+    here = rw (← e₁, ← e₃) e₄
 
-    pub ending-other : (kind ≡ 3 → ⊥) → Ending s m at out Runs
-    ending-other z =
-        record { few = tt; is = λ P B d. sym (ap (returned []) (at-transfer P B d ∙ kind-is s m i e₅ refl P kind refl) ∙ transfer-runs P m s _ kind z) }
+    at-transfer : (P : Program) (B : Block) → Codes s at B → (T : Transfer) → transferAt s i ≡ T
+        → returned [] (coming P m B (getElem? (B .code) (m .done))) ≡ returned [] (transfer P m T)
+    at-transfer P B d T q = ap (returned []) (comes-transfer m B d (omega arith) i here P ∙ ap (transfer P m) q)
+
+    returns-at : (B : Block) → Codes s at B → (T : Transfer) → transferAt s i ≡ T → returnsOf m (nextIn m B) ≡ returnsOf m (some T)
+    returns-at B d T q = ap (returnsOf m) (next-transfer m B d (omega arith) i here ∙ ap some q)
+
+    pub ending-other : (out : List ℤ) → (kind ≡ 3 → ⊥) → Ending s m at out Runs out
+    ending-other out z =
+        let q = kind-is s i e₅ refl kind refl in
+        record {
+          few = tt;
+          is = λ P B d. sym (at-transfer P B d _ q ∙ transfer-runs P m s _ kind z);
+          left = λ B d. rw (returns-at B d _ q, no-returns m s _ kind z) (filled-none m out);
+        }
 
     module _ (z : kind ≡ 3) {c : ℕ} (e₆ : c ≡ length (m .calls)) where
-      at-return : (j : ℕ) → j ≡ past i 1 → (P : Program) (B : Block) → Codes s at B → returned [] (coming P m B (getElem? (B .code) (m .done))) ≡ returned [] (return m (argumentsAt s j))
-      unfolding transfer transferOf
-      at-return j e P B d = ap (returned []) (at-transfer P B d ∙ kind-is s m i e₅ e P 3 z)
+      at-return : (j : ℕ) → j ≡ past i 1 → transferAt s i ≡ Transfer.return (argumentsAt s j)
+      unfolding transferOf
+      at-return j e = kind-is s i e₅ e 3 z
 
-      pub ending-open : (c ≡ 0 → ⊥) → Ending s m at out Runs
-      ending-open o =
-          record { few = tt; is = λ P B d. sym (at-return (past i 1) refl P B d ∙ return-runs m _ (some-calls (m .calls) (λ q. o (e₆ ∙ q)))) }
+      pub ending-open : (out : List ℤ) → (c ≡ 0 → ⊥) → Ending s m at out Runs out
+      unfolding transfer returnsOf
+      ending-open out o =
+          let q = at-return (past i 1) refl in
+          let k = some-calls (m .calls) (λ y. o (e₆ ∙ y)) in
+          record {
+            few = tt;
+            is = λ P B d. sym (at-transfer P B d _ q ∙ return-runs m _ k);
+            left = λ B d. rw (returns-at B d _ q, k) (filled-none m out);
+          }
 
-      module _ (o : c ≡ 0) (ok : Bool) {j : ℕ} (e₇ : j ≡ past i 1) (e₈ : lookedIn s j ok out ≡ lookAll m (argumentsAt s j)) where
-        pub ending-unbound : not ok ≡ true → Ending s m at out Runs
+      module _ (o : c ≡ 0) (out₀ out : List ℤ) (ok : Bool) {j : ℕ} (e₇ : j ≡ past i 1) (e₈ : Looks m s j out₀ ok out) where
+        pub ending-unbound : not ok ≡ true → Ending s m at out₀ Runs out
+        unfolding transfer returnsOf
         ending-unbound t =
-            record { few = tt; is = λ P B d. sym (at-return j e₇ P B d ∙ return-none m _ (looked-none s j ok out _ e₈ t)) }
+            let q = at-return j e₇ in
+            record {
+              few = tt;
+              is = λ P B d. sym (at-transfer P B d _ q ∙ return-none m _ (looked-none s j ok out _ (e₈ .is) t));
+              left = λ B d. rw (returns-at B d _ q, no-calls (m .calls) (sym e₆ ∙ o)) (e₈ .left);
+            }
 
-        pub ending-gives : {q : ℕ} → not ok ≡ false → q ≡ countAt s j → Ending s m at out (Gives q)
-        ending-gives {q} t e =
+        pub ending-gives : {y : ℕ} → not ok ≡ false → y ≡ countAt s j → Ending s m at out₀ (Gives y) out
+        unfolding transfer returnsOf
+        ending-gives {y} t e =
+            let q = at-return j e₇ in
+            let k = no-calls (m .calls) (sym e₆ ∙ o) in
             record {
               few = count-bound s j e;
               is = λ P B d.
                   ap (λ (a : ℕ). some (take a out)) e
-                  ∙ sym (at-return j e₇ P B d ∙ return-gives m _ _ (no-calls (m .calls) (sym e₆ ∙ o)) (looked-some s j ok out _ e₈ t));
+                  ∙ sym (at-transfer P B d _ q ∙ return-gives m _ _ k (looked-some s j ok out _ (e₈ .is) t));
+              left = λ B d. rw (returns-at B d _ q, k) (e₈ .left);
             }
 
 -- by the frame's block
-module _ (s places : List ℕ) (m : Frame) (out : List ℤ) {f b : ℕ} (h : f ≡ m .function) (g : b ≡ m .block) where
-  pub giving-nowhere : FindsBlock places f b Nowhere → Giving s places m out Runs
-  unfolding act acts blockOf functionOf returned
-  giving-nowhere d = record { few = tt; is = λ P p. sym (rw (← h, ← g, d s P p)) }
+module _ (s places : List ℕ) (m : Frame) {f b : ℕ} (h : f ≡ m .function) (g : b ≡ m .block) where
+  pub giving-nowhere : (out : List ℤ) → FindsBlock places f b Nowhere → Giving s places m out Runs out
+  unfolding act acts returned nextOf returnsOf
+  giving-nowhere out d =
+      record {
+        few = tt;
+        is = λ P p. sym (rw (block-none s places m h g P p d));
+        left = λ P p. rw (block-none s places m h g P p d) (filled-none m out);
+      }
 
-  pub giving-at : (at : ℕ) (r : Ended) {i : ℕ} → FindsBlock places f b (At at) → i ≡ headEnd s at → Ending s m i out r → Giving s places m out r
-  unfolding act acts blockOf functionOf
-  giving-at at r {i} d e k =
+  pub giving-at : (out₀ out : List ℤ) (at : ℕ) (r : Ended) {i : ℕ} → FindsBlock places f b (At at) → i ≡ headEnd s at → Ending s m i out₀ r out
+      → Giving s places m out₀ r out
+  unfolding act acts nextOf
+  giving-at out₀ out at r {i} d e k =
       record {
         few = k .few;
-        is = λ P p.
-            let (B, q, t) = d s P p in
-            k .is P B (subst (λ (j : ℕ). Codes s j B) (sym e) (block-codes s at B (t .behind) (p .short) (t .is) .1)) ∙ sym (rw (← h, ← g, q));
+        is = λ P p. rw (block-some s places m h g P p at d) (k .is P (d s P p .0) (codes P p));
+        left = λ P p. rw (block-some s places m h g P p at d) (k .left (d s P p .0) (codes P p));
       }
+    where
+      codes : (P : Program) (p : Places s P places) → Codes s i (d s P p .0)
+      codes P p =
+          let (B, q, t) = d s P p in
+          subst (λ (j : ℕ). Codes s j B) (sym e) (block-codes s at B (t .behind) (p .short) (t .is) .1)
+
+-- what is given are the values of the temporaries returned
+module _ (P : Program) (m : Frame) (v̄ : List ℤ) where
+  transfer-gives : (T : Transfer) → returned [] (transfer P m T) ≡ some v̄ → lookAll m (returnsOf m (some T)) ≡ some v̄
+  unfolding transfer goto spork returnsOf return acts returned when
+  transfer-gives (Transfer.goto b x̄) e = cc (by-runs No.goto _)
+  transfer-gives (Transfer.if c b d) e = cc (if-runs P m c b d)
+  transfer-gives (Transfer.call g x̄ b) e = cc (call-runs P m g x̄ b)
+  transfer-gives (Transfer.return x̄) e = go (equal (m .calls) []) (lookAll m x̄) refl e
+    where
+      go : (b : Bool) (o : Option (List ℤ)) → lookAll m x̄ ≡ o
+          → returned [] (acts (Frames._>>=_ o (λ w̄. when b (some (Rules.Act.pop w̄))))) ≡ some v̄ → lookAll m (cond b x̄ []) ≡ some v̄
+      go true none h q = cc
+      go true (some w̄) h q = h ∙ q
+      go false none h q = cc
+      go false (some w̄) h q = cc
+  transfer-gives (Transfer.spork b π) e = cc (by-runs No.spork _)
+  transfer-gives (Transfer.spoin b c) e = cc (spoin-runs P m b c)
+
+  pub act-gives : returned [] (act P m) ≡ some v̄ → lookAll m (returnsOf m (nextOf P m)) ≡ some v̄
+  unfolding act acts nextOf coming returned nextIn
+  act-gives e = at (blockOf P m (m .block)) e
+    where
+      next : (B : Block) (o : Option Statement) → returned [] (coming P m B o) ≡ some v̄ → lookAll m (returnsOf m (transferBy B o)) ≡ some v̄
+      next B none q = transfer-gives (B .transfer) q
+      next B (some t) q = cc (stmt-runs m t)
+
+      at : (o : Option Block) → returned [] (acts (Frames._>>=_ o (λ B. some (coming P m B (getElem? (B .code) (m .done)))))) ≡ some v̄
+          → lookAll m (returnsOf m (Frames._>>=_ o (nextIn m))) ≡ some v̄
+      at none q = cc
+      at (some B) q = next B (getElem? (B .code) (m .done)) q

@@ -3,7 +3,7 @@ use Prim.Native.Nat.{ℕ, zero, suc, _<_}
 use mathlib.Core.Path.{_≡_, refl, sym, ap, subst, _∙_}
 use mathlib.Core.Bool.{Bool, true, false, not}
 use mathlib.Core.Option.{Option, none, some}
-use mathlib.Core.List.{List}
+use mathlib.Core.List.{List, []}
 use native.Mathlib.Omega.{arith}
 use borrow.Author.Tests.{eq-eqb, ne-eqb, not-true, not-false}
 use lib.Dec.{eqb}
@@ -22,13 +22,14 @@ use Rattle.places.specs.declared.Place.the-variants.{At, Nowhere}
 use Rattle.places.specs.Places.{Places, spawnIn, FindsFunction, FindsBlock, FindsSpawn}
 use Rattle.bytes.specs.Bytes.{byteAt, past}
 use Rattle.eval.specs.Code.{most, run, countAt, argumentsAt}
-use Rattle.eval.specs.Given.{optional, lookedIn}
+use Rattle.eval.specs.Given.{optional, lookedIn, filled, Looks}
 use Rattle.eval.proofs.Leaves.{count-le}
+use Rattle.eval.proofs.Buffers.{filled-none}
 use Rattle.eval.proofs.Decoding.{block-codes, spawn-is, function-parameters}
 use Rattle.rules.specs.declared.Acted.{Acted}
 use Rattle.rules.specs.declared.Does.{Does}
 use Rattle.rules.specs.declared.Does.the-variants.{Push}
-use Rattle.rules.specs.Acts.{acting, jam, Entering, Enters, Takes, childBy, Spawns}
+use Rattle.rules.specs.Acts.{acting, jam, Entering, Enters, Takes, childBy, spawnsOf, Child, Spawns}
 
 -- how long an argument list is, and the values looked up for it
 run-length : (s : List ℕ) (at n : ℕ) → length (run s at n) ≡ n
@@ -130,35 +131,44 @@ unfolding spawnIn
 spawn-then none π f = refl
 spawn-then (some F) π f = refl
 
--- a spawned child's first frame
-module _ (s places : List ℕ) (m : Frame) (π : ℕ) (out : List ℤ) (r : Acted) {f : ℕ} (h : f ≡ m .function) where
+-- a spawned child's first frame, and what is left of its arguments
+module _ (s places : List ℕ) (m : Frame) (π : ℕ) (r : Acted) {f : ℕ} (h : f ≡ m .function) where
   child-is : (P : Program) → child P m π ≡ Frames._>>=_ (spawnIn (getElem? P f) π) (λ S. Frames._>>=_ (lookAll m (S .arguments)) (λ v̄. callee P (S .function) v̄))
   unfolding child functionOf
   child-is P = rw h (spawn-then (getElem? P (m .function)) π _)
 
-  no-child : (P : Program) → r ≡ jam → child P m π ≡ none → childBy (r .does) r out ≡ child P m π
-  no-child P e q = rw e (sym q)
+  no-child : (P : Program) (out : List ℤ) → r ≡ jam → child P m π ≡ none → childBy (r .does) r out ≡ child P m π
+  no-child P out e q = rw e (sym q)
 
-  pub no-spawn : FindsSpawn places f π Nowhere → r ≡ jam → Spawns s places m π out r
-  no-spawn d e P p = no-child P e (child-is P ∙ rw (d s P p))
+  pub no-spawn : (out : List ℤ) → FindsSpawn places f π Nowhere → r ≡ jam → Spawns s places m π out r out
+  unfolding spawnsOf
+  no-spawn out d e P p =
+      record { is = no-child P out e (child-is P ∙ rw (d s P p)); left = filled-none m out ∙ rw (← h, d s P p) }
 
-  module _ (at : ℕ) (ok : Bool) {l : ℕ} (d : FindsSpawn places f π (At at)) (e₁ : l ≡ past at 1) (e₂ : lookedIn s l ok out ≡ lookAll m (argumentsAt s l)) where
+  module _ (out₀ out : List ℤ) (at : ℕ) (ok : Bool) {l : ℕ} (d : FindsSpawn places f π (At at)) (e₁ : l ≡ past at 1) (e₂ : Looks m s l out₀ ok out) where
     child-at : (P : Program) → Places s P places → child P m π ≡ Frames._>>=_ (lookAll m (argumentsAt s l)) (λ v̄. callee P (byteAt s at) v̄)
     child-at P p =
         let (S, q, i) = d s P p in
         child-is P ∙ rw (q, spawn-is s at S (i .behind) (p .short) (i .is), e₁)
 
-    pub not-looked : not ok ≡ true → r ≡ jam → Spawns s places m π out r
-    not-looked t e P p = no-child P e (child-at P p ∙ rw (looked-none s l ok out _ e₂ t))
+    child-left : (P : Program) → Places s P places → out ≡ filled m (spawnsOf (spawnIn (getElem? P (m .function)) π)) out₀
+    unfolding spawnsOf
+    child-left P p =
+        let (S, q, i) = d s P p in
+        e₂ .left ∙ rw (← h, q, spawn-is s at S (i .behind) (p .short) (i .is), e₁)
+
+    pub not-looked : not ok ≡ true → r ≡ jam → Spawns s places m π out₀ r out
+    not-looked t e P p =
+        record { is = no-child P out e (child-at P p ∙ rw (looked-none s l ok out _ (e₂ .is) t)); left = child-left P p }
 
     module _ (there : Bool) {g n : ℕ} (t : not ok ≡ false) (z : length out ≡ most) (e₃ : g ≡ byteAt s at) (e₄ : n ≡ countAt s l) (k : Takes s places g n there) where
       child-of : (P : Program) → Places s P places → child P m π ≡ optional there (begin g (take n out))
       child-of P p =
           child-at P p
-          ∙ rw (looked-some s l ok out _ e₂ t, ← e₃, ← e₄) (k P p (take n out) (passed-length s l out z e₄))
+          ∙ rw (looked-some s l ok out _ (e₂ .is) t, ← e₃, ← e₄) (k P p (take n out) (passed-length s l out z e₄))
 
-      pub not-taken : not there ≡ true → r ≡ jam → Spawns s places m π out r
-      not-taken u e P p = no-child P e (child-of P p ∙ rw (not-true there u))
+      pub not-taken : not there ≡ true → r ≡ jam → Spawns s places m π out₀ r out
+      not-taken u e P p = record { is = no-child P out e (child-of P p ∙ rw (not-true there u)); left = child-left P p }
 
-      pub spawns : not there ≡ false → r ≡ acting Push g 0 n → Spawns s places m π out r
-      spawns u e P p = rw e (sym (child-of P p ∙ rw (not-false there u)))
+      pub spawns : not there ≡ false → r ≡ acting Push g 0 n → Spawns s places m π out₀ r out
+      spawns u e P p = record { is = rw e (sym (child-of P p ∙ rw (not-false there u))); left = child-left P p }

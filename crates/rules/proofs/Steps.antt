@@ -16,7 +16,7 @@ use lib.ListN.{length, getElem?, take}
 use Rattle.model.specs.Numbers as No
 use Rattle.model.specs.Lists.{Snoc, snoc, unsnoc, equal}
 use Rattle.model.specs.Values.{same}
-use Rattle.model.specs.Syntax.{Expression, Block, Program}
+use Rattle.model.specs.Syntax.{Expression, Transfer, Block, Program}
 use Rattle.model.specs.Pool.{Frame, temporaries, mostCalls, begin, functionOf, blockOf}
 use Rattle.model.specs.Frames as Frames
 use Rattle.model.specs.Frames.{when, lookAll, eval, bind, bindAll, goTo, deque, enter, callee}
@@ -30,21 +30,27 @@ use Rattle.places.specs.declared.Place.the-variants.{At, Nowhere}
 use Rattle.places.specs.Places.{spawnIn, Places, FindsBlock, FindsSpawn}
 use Rattle.bytes.specs.Bytes.{byteAt, past}
 use Rattle.eval.specs.declared.Evaluated.{Evaluated}
-use Rattle.eval.specs.Code.{most, countAt, argumentsAt, listEnd, expressionAt, expressionEnd, statementAt, statementsEnd, headEnd, transferOf, transferAt}
-use Rattle.eval.specs.Given.{optional, Evaluates, lookedIn}
+use Rattle.eval.specs.Code.{most, countAt, argumentsAt, listEnd, expressionAt, expressionEnd, statementAt, statementsEnd, headEnd, transferOf, transferAt, Codes}
+use Rattle.eval.specs.Given.{optional, Evaluates, filled, Looks}
+use Rattle.eval.proofs.Leaves.{evaluated-is, evaluated-end}
 use Rattle.eval.proofs.Lists.{count-bound}
-use Rattle.eval.proofs.Decoding.{Codes, block-codes}
+use Rattle.eval.proofs.Buffers.{filled-none}
+use Rattle.eval.proofs.Decoding.{block-codes}
 use Rattle.rules.specs.declared.Acted.{Acted}
 use Rattle.rules.specs.declared.Does.{Does}
 use Rattle.rules.specs.declared.Does.the-variants.{Bind, Enter, Open, Close, Push, Pop, Join}
 use Rattle.rules.specs.Acts as Rule
-use Rattle.rules.specs.Acts.{acting, jam, closed, actBy, Parameters, soundBy, Is, Entering, Enters, Takes}
+use Rattle.rules.specs.Acts.{acting, jam, closed, actBy, Parameters, soundBy, Is, nextIn, nextOf, argumentsOf, Passes, Entering, Enters, Takes}
 use Rattle.rules.proofs.Heads.{passed-length, looked-none, looked-some, spawn-then}
 
 module _ (s : List ℕ) (m : Frame) (out : List ℤ) (r : Acted) where
   -- the same act
   is-to : {t u : Rules.Act} → Is s m out r t → t ≡ u → Is s m out r u
   is-to h e = subst (Is s m out r) e h
+
+  -- nothing passed on
+  passes-none : {t : Rules.Act} → Is s m out r t → Passes s m [] out r out t
+  passes-none h = record { is = h; left = filled-none m out }
 
   -- no rule applies
   refused : {t : Rules.Act} → r ≡ jam → t ≡ Rules.Act.refuse No.stuck → Is s m out r t
@@ -86,44 +92,48 @@ module _ (s : List ℕ) (m : Frame) (out : List ℤ) (r : Acted) where
   moved P does rule f b x k e z h (Entering.jams j a) = refused j (ap (by rule) (a k [] h refl))
 
 -- goto
-module _ (s places : List ℕ) (m : Frame) (at : ℕ) (out : List ℤ) (r : Acted) (ok : Bool) {l : ℕ} (e₁ : l ≡ past at 1) (e₂ : lookedIn s l ok out ≡ lookAll m (argumentsAt s l)) where
+module _ (s places : List ℕ) (m : Frame) (at : ℕ) (out₀ out : List ℤ) (r : Acted) (ok : Bool) {l : ℕ} (e₁ : l ≡ past at 1) (e₂ : Looks m s l out₀ ok out) where
   unbound : not ok ≡ true → lookAll m (argumentsAt s (past at 1)) ≡ none
-  unbound t = ap (λ (i : ℕ). lookAll m (argumentsAt s i)) (sym e₁) ∙ looked-none s l ok out _ e₂ t
+  unbound t = ap (λ (i : ℕ). lookAll m (argumentsAt s i)) (sym e₁) ∙ looked-none s l ok out _ (e₂ .is) t
 
   given : not ok ≡ false → lookAll m (argumentsAt s (past at 1)) ≡ some (take (countAt s l) out)
-  given t = ap (λ (i : ℕ). lookAll m (argumentsAt s i)) (sym e₁) ∙ looked-some s l ok out _ e₂ t
+  given t = ap (λ (i : ℕ). lookAll m (argumentsAt s i)) (sym e₁) ∙ looked-some s l ok out _ (e₂ .is) t
 
-  pub goto-stuck : not ok ≡ true → r ≡ jam → Rule.Goto s places m at out r
+  passing : {t : Rules.Act} → Is s m out r t → Passes s m (argumentsAt s (past at 1)) out₀ r out t
+  passing h = record { is = h; left = e₂ .left ∙ ap (λ (i : ℕ). filled m (argumentsAt s i) out₀) e₁ }
+
+  pub goto-stuck : not ok ≡ true → r ≡ jam → Rule.Goto s places m at out₀ r out
   unfolding goto by
-  goto-stuck t h P p = refused s m out r h (rw (unbound t))
+  goto-stuck t h P p = passing (refused s m out r h (rw (unbound t)))
 
-  pub goto-goes : {f b n : ℕ} → not ok ≡ false → length out ≡ most → f ≡ m .function → b ≡ byteAt s at → n ≡ countAt s l → Enters s places f b n Enter No.goto r → Rule.Goto s places m at out r
+  pub goto-goes : {f b n : ℕ} → not ok ≡ false → length out ≡ most → f ≡ m .function → b ≡ byteAt s at → n ≡ countAt s l → Enters s places f b n Enter No.goto r → Rule.Goto s places m at out₀ r out
   unfolding goto
   goto-goes {f} {b} {n} t z h e₃ e₄ d P p =
-      is-to s m out r (entered s m out r P No.goto f b n (sym h) (passed-length s l out z e₄) (d P p)) (sym (rw (given t, ← e₃, ← e₄)))
+      passing
+      (is-to s m out r (entered s m out r P No.goto f b n (sym h) (passed-length s l out z e₄) (d P p)) (sym (rw (given t, ← e₃, ← e₄))))
 
   -- call
-  pub call-unbound : (b : ℕ) → not ok ≡ true → r ≡ jam → Rule.Call s places m at b out r
+  pub call-unbound : (b : ℕ) → not ok ≡ true → r ≡ jam → Rule.Call s places m at b out₀ r out
   unfolding call acts
-  call-unbound b t h P p = refused s m out r h (rw (unbound t))
+  call-unbound b t h P p = passing (refused s m out r h (rw (unbound t)))
 
   module _ (b : ℕ) (there : Bool) {g n : ℕ} (t : not ok ≡ false) (z : length out ≡ most) (e₃ : g ≡ byteAt s at) (e₄ : n ≡ countAt s l) (k : Takes s places g n there) where
     callee-is : (P : Program) → Places s P places → callee P (byteAt s at) (take (countAt s l) out) ≡ optional there (begin g (take n out))
     callee-is P p = rw (← e₃, ← e₄) (k P p (take n out) (passed-length s l out z e₄))
 
-    pub call-missing : not there ≡ true → r ≡ jam → Rule.Call s places m at b out r
+    pub call-missing : not there ≡ true → r ≡ jam → Rule.Call s places m at b out₀ r out
     unfolding call acts
-    call-missing u h P p = refused s m out r h (rw (given t, callee-is P p, not-true there u))
+    call-missing u h P p = passing (refused s m out r h (rw (given t, callee-is P p, not-true there u)))
 
-    pub call-nowhere : {f : ℕ} → not there ≡ false → f ≡ m .function → FindsBlock places f b Nowhere → r ≡ jam → Rule.Call s places m at b out r
+    pub call-nowhere : {f : ℕ} → not there ≡ false → f ≡ m .function → FindsBlock places f b Nowhere → r ≡ jam → Rule.Call s places m at b out₀ r out
     unfolding call acts blockOf functionOf
-    call-nowhere u q d h P p = refused s m out r h (rw (given t, callee-is P p, not-false there u, ← q, d s P p))
+    call-nowhere u q d h P p = passing (refused s m out r h (rw (given t, callee-is P p, not-false there u, ← q, d s P p)))
 
-    pub call-goes : (i : ℕ) {f : ℕ} → not there ≡ false → f ≡ m .function → FindsBlock places f b (At i) → r ≡ acting Push g b n → Rule.Call s places m at b out r
+    pub call-goes : (i : ℕ) {f : ℕ} → not there ≡ false → f ≡ m .function → FindsBlock places f b (At i) → r ≡ acting Push g b n → Rule.Call s places m at b out₀ r out
     unfolding call acts blockOf functionOf
     call-goes i u q d h P p =
         let (B, w, _) = d s P p in
-        rw h (record { act = sym (rw (given t, callee-is P p, not-false there u, ← q, w)); sound = tt })
+        passing (rw h (record { act = sym (rw (given t, callee-is P p, not-false there u, ← q, w)); sound = tt }))
 
 -- then, else
 module _ (s places : List ℕ) (f b c : ℕ) (v : ℤ) (r : Acted) (g : SFits w32 v) where
@@ -189,19 +199,32 @@ unfolding equal
 some-calls [] e = absurd (e refl)
 some-calls (x ∷ xs) e = refl
 
-module _ (s : List ℕ) (m : Frame) (at : ℕ) (out : List ℤ) (r : Acted) (ok : Bool) (e₁ : lookedIn s at ok out ≡ lookAll m (argumentsAt s at)) where
-  pub return-unbound : not ok ≡ true → r ≡ jam → Rule.Return s m at out r
+module _ (s : List ℕ) (m : Frame) (at : ℕ) (out₀ out : List ℤ) (r : Acted) (ok : Bool) (e₁ : Looks m s at out₀ ok out) where
+  pub return-unbound : not ok ≡ true → r ≡ jam → Rule.Return s m at out₀ r out
   unfolding return acts
-  return-unbound t h = refused s m out r h (rw (looked-none s at ok out _ e₁ t))
+  return-unbound t h = record { is = refused s m out r h (rw (looked-none s at ok out _ (e₁ .is) t)); left = e₁ .left }
 
-  pub return-open : {n : ℕ} → not ok ≡ false → n ≡ length (m .calls) → (n ≡ 0 → ⊥) → r ≡ jam → Rule.Return s m at out r
+  pub return-open : {n : ℕ} → not ok ≡ false → n ≡ length (m .calls) → (n ≡ 0 → ⊥) → r ≡ jam → Rule.Return s m at out₀ r out
   unfolding return acts when
-  return-open t e z h = refused s m out r h (rw (looked-some s at ok out _ e₁ t, some-calls (m .calls) (λ q. z (e ∙ q))))
+  return-open t e z h =
+      record {
+        is = refused s m out r h (rw (looked-some s at ok out _ (e₁ .is) t, some-calls (m .calls) (λ q. z (e ∙ q))));
+        left = e₁ .left;
+      }
 
-  pub return-goes : {n c : ℕ} → not ok ≡ false → n ≡ length (m .calls) → n ≡ 0 → c ≡ countAt s at → r ≡ acting Pop 0 0 c → Rule.Return s m at out r
+  pub return-goes : {n c : ℕ} → not ok ≡ false → n ≡ length (m .calls) → n ≡ 0 → c ≡ countAt s at → r ≡ acting Pop 0 0 c
+      → Rule.Return s m at out₀ r out
   unfolding return acts when
   return-goes t e z d h =
-      rw h (record { act = sym (rw (looked-some s at ok out _ e₁ t, no-calls (m .calls) (sym e ∙ z), ← d)); sound = count-bound s at d })
+      record {
+        is =
+            rw h
+            (record {
+              act = sym (rw (looked-some s at ok out _ (e₁ .is) t, no-calls (m .calls) (sym e ∙ z), ← d));
+              sound = count-bound s at d;
+            });
+        left = e₁ .left;
+      }
 
 -- spork
 module _ (s places : List ℕ) (m : Frame) (b π : ℕ) (r : Acted) {f : ℕ} (h : f ≡ m .function) where
@@ -271,38 +294,49 @@ module _ (s places : List ℕ) (m : Frame) (b c : ℕ) (r : Acted) {n : ℕ} (e 
         rw h (record { act = sym (spoin-is P ∙ rw (le-ltb q n l)); sound = (omega arith, omega arith) })
 
 -- a transfer, by its kind
-module _ (s : List ℕ) (m : Frame) (at : ℕ) {kind f : ℕ} (e₁ : kind ≡ byteAt s at) (e₂ : f ≡ past at 1) where
-  pub kind-is : (P : Program) (n : ℕ) → kind ≡ n → transfer P m (transferAt s at) ≡ transfer P m (transferOf n s f)
+module _ (s : List ℕ) (at : ℕ) {kind f : ℕ} (e₁ : kind ≡ byteAt s at) (e₂ : f ≡ past at 1) where
+  pub kind-is : (n : ℕ) → kind ≡ n → transferAt s at ≡ transferOf n s f
   unfolding transferAt
-  kind-is P n q = let z : byteAt s at ≡ n = sym e₁ ∙ q in rw (z, e₂)
+  kind-is n q = let z : byteAt s at ≡ n = sym e₁ ∙ q in rw (z, e₂)
 
-module _ (s places : List ℕ) (m : Frame) (at : ℕ) (out : List ℤ) (r : Acted) {kind f : ℕ} (e₁ : kind ≡ byteAt s at) (e₂ : f ≡ past at 1) where
-  pub transfer-goto : kind ≡ 0 → Rule.Goto s places m f out r → Rule.Transfer s places m at out r
-  unfolding transferOf transfer
-  transfer-goto q h o P p = is-to s m out r (h P p) (sym (kind-is s m at e₁ e₂ P 0 q))
+  module _ (places : List ℕ) (m : Frame) (out₀ out : List ℤ) (r : Acted) where
+    by-kind : (P : Program) (n : ℕ) → kind ≡ n → Passes s m (argumentsOf (some (transferOf n s f))) out₀ r out (transfer P m (transferOf n s f))
+        → Passes s m (argumentsOf (some (transferAt s at))) out₀ r out (transfer P m (transferAt s at))
+    by-kind P n q h = subst⁻¹ (λ (T : Transfer). Passes s m (argumentsOf (some T)) out₀ r out (transfer P m T)) (kind-is n q) h
 
-  pub transfer-call : {g l b : ℕ} → kind ≡ 2 → g ≡ past f 1 → l ≡ listEnd s g → b ≡ byteAt s l → Rule.Call s places m f b out r → Rule.Transfer s places m at out r
-  unfolding transferOf transfer
-  transfer-call q e₃ e₄ e₅ h o P p =
-      is-to s m out r (h P p)
-      (ap (λ (i : ℕ). call P m (byteAt s f) (argumentsAt s (past f 1)) i) (e₅ ∙ ap (byteAt s) (e₄ ∙ ap (listEnd s) e₃)) ∙ sym (kind-is s m at e₁ e₂ P 2 q))
+    pub transfer-goto : kind ≡ 0 → Rule.Goto s places m f out₀ r out → Rule.Transfer s places m at out₀ r out
+    unfolding transferOf transfer argumentsOf
+    transfer-goto q h o P p = by-kind P 0 q (h P p)
 
-  pub transfer-return : kind ≡ 3 → Rule.Return s m f out r → Rule.Transfer s places m at out r
-  unfolding transferOf transfer
-  transfer-return q h o P p = is-to s m out r h (sym (kind-is s m at e₁ e₂ P 3 q))
+    pub transfer-call : {g l b : ℕ} → kind ≡ 2 → g ≡ past f 1 → l ≡ listEnd s g → b ≡ byteAt s l → Rule.Call s places m f b out₀ r out
+        → Rule.Transfer s places m at out₀ r out
+    unfolding transferOf transfer argumentsOf
+    transfer-call {g} {l} {b} q e₃ e₄ e₅ h o P p =
+        let e : b ≡ byteAt s (listEnd s (past f 1)) = e₅ ∙ ap (byteAt s) (e₄ ∙ ap (listEnd s) e₃) in
+        by-kind P 2 q (subst (λ (i : ℕ). Rule.Call s places m f i out₀ r out) e h P p)
 
-  pub transfer-ends : {g b c : ℕ} → (kind ≡ 0 → ⊥) → (kind ≡ 2 → ⊥) → (kind ≡ 3 → ⊥) → g ≡ past f 1 → b ≡ byteAt s f → c ≡ byteAt s g → Rule.Ends s places m kind b c r → Rule.Transfer s places m at out r
-  unfolding transferOf transfer
-  transfer-ends {g} {b} {c} z₀ z₂ z₃ e₃ e₄ e₅ h o P p =
-      is-to s m out r (h P p out) (rw (e₄, e₅, e₃) (go kind z₀ (λ q. o (sym e₁ ∙ q)) z₂ z₃) ∙ sym (kind-is s m at e₁ e₂ P kind refl))
-    where
-      go : (n : ℕ) → (n ≡ 0 → ⊥) → (n ≡ 1 → ⊥) → (n ≡ 2 → ⊥) → (n ≡ 3 → ⊥) → cond (eqb n 4) (spork P m (byteAt s f) (byteAt s (past f 1))) (spoin P m (byteAt s f) (byteAt s (past f 1))) ≡ transfer P m (transferOf n s f)
-      go zero a b c d = absurd (a refl)
-      go (suc zero) a b c d = absurd (b refl)
-      go (suc (suc zero)) a b c d = absurd (c refl)
-      go (suc (suc (suc zero))) a b c d = absurd (d refl)
-      go (suc (suc (suc (suc zero)))) a b c d = refl
-      go (suc (suc (suc (suc (suc n))))) a b c d = rw (ne-eqb (suc (suc (suc (suc (suc n))))) 4 (λ q. absurd (omega arith)))
+    pub transfer-return : kind ≡ 3 → Rule.Return s m f out₀ r out → Rule.Transfer s places m at out₀ r out
+    unfolding transferOf transfer argumentsOf
+    transfer-return q h o P p = by-kind P 3 q h
+
+  module _ (places : List ℕ) (m : Frame) (out : List ℤ) (r : Acted) where
+    pub transfer-ends : {g b c : ℕ} → (kind ≡ 0 → ⊥) → (kind ≡ 2 → ⊥) → (kind ≡ 3 → ⊥) → g ≡ past f 1 → b ≡ byteAt s f → c ≡ byteAt s g
+        → Rule.Ends s places m kind b c r → Rule.Transfer s places m at out r out
+    unfolding transferOf transfer argumentsOf
+    transfer-ends {g} {b} {c} z₀ z₂ z₃ e₃ e₄ e₅ h o P p =
+        by-kind places m out out r P kind refl (go kind z₀ (λ q. o (sym e₁ ∙ q)) z₂ z₃ (rw (e₄, e₅, e₃) at (h P p out)))
+      where
+        go : (n : ℕ) → (n ≡ 0 → ⊥) → (n ≡ 1 → ⊥) → (n ≡ 2 → ⊥) → (n ≡ 3 → ⊥)
+            → Is s m out r (cond (eqb n 4) (spork P m (byteAt s f) (byteAt s (past f 1))) (spoin P m (byteAt s f) (byteAt s (past f 1))))
+            → Passes s m (argumentsOf (some (transferOf n s f))) out r out (transfer P m (transferOf n s f))
+        go zero a b c d i = absurd (a refl)
+        go (suc zero) a b c d i = absurd (b refl)
+        go (suc (suc zero)) a b c d i = absurd (c refl)
+        go (suc (suc (suc zero))) a b c d i = absurd (d refl)
+        go (suc (suc (suc (suc zero)))) a b c d i = passes-none s m out r i
+        go (suc (suc (suc (suc (suc n))))) a b c d i =
+            let e : eqb (suc (suc (suc (suc (suc n))))) 4 ≡ false = ne-eqb (suc (suc (suc (suc (suc n))))) 4 (λ q. absurd (omega arith)) in
+            passes-none s m out r (rw e at i)
 
 module _ (s places : List ℕ) (m : Frame) (kind b c : ℕ) (r : Acted) where
   pub ends-spork : kind ≡ 4 → Rule.Spork s places m b c r → Rule.Ends s places m kind b c r
@@ -319,59 +353,87 @@ module _ (s : List ℕ) (at : ℕ) {done n r : ℕ} where
   pub next-behind : n ≤ done → r ≡ statementsEnd s at n → r ≡ statementsEnd s at (min done n)
   next-behind l e = let y : min done n ≡ n = min-eq-right l in rw y e
 
+-- a block whose statements are all done: its transfer comes next
+module _ {s : List ℕ} {at : ℕ} (m : Frame) (B : Block) (d : Codes s at B) (l : byteAt s at ≤ m .done) where
+  code-done : getElem? (B .code) (m .done) ≡ none
+  code-done = past-at (B .code) (m .done) (omega (arith, d .count))
+
+  pub next-transfer : (i : ℕ) → i ≡ statementsEnd s (past at 1) (byteAt s at) → nextIn m B ≡ some (transferAt s i)
+  unfolding nextIn
+  next-transfer i e = rw code-done (ap some (d .transfer ∙ rw e))
+
+  pub comes-transfer : (i : ℕ) → i ≡ statementsEnd s (past at 1) (byteAt s at) → (P : Program)
+      → coming P m B (getElem? (B .code) (m .done)) ≡ transfer P m (transferAt s i)
+  unfolding coming
+  comes-transfer i e P = rw code-done (ap (transfer P m) (d .transfer ∙ rw e))
+
 -- what comes next, at i
-module _ (s places : List ℕ) (m : Frame) (at : ℕ) (out : List ℤ) (r : Acted) {n f done i x : ℕ} (e₁ : n ≡ byteAt s at) (e₂ : f ≡ past at 1) (e₃ : done ≡ m .done) (e₄ : i ≡ statementsEnd s f (min done n)) (e₅ : x ≡ byteAt s i) where
+module _ (s places : List ℕ) (m : Frame) (at : ℕ) (r : Acted) {n f done i x : ℕ} (e₁ : n ≡ byteAt s at) (e₂ : f ≡ past at 1) (e₃ : done ≡ m .done) (e₄ : i ≡ statementsEnd s f (min done n)) (e₅ : x ≡ byteAt s i) where
   next-statement : (B : Block) → Codes s at B → done < n → getElem? (B .code) (m .done) ≡ some (statementAt s i)
   next-statement B d l =
       let y : min done n ≡ done = min-eq-left (omega arith) in
       let q : statementsEnd s (past at 1) (m .done) ≡ i = rw (← e₂, ← e₃) (sym (e₄ ∙ ap (statementsEnd s f) y)) in
       d .items (m .done) (omega (arith, d .count)) ∙ rw q
 
-  next-transfer : (P : Program) (B : Block) → Codes s at B → n ≤ done → coming P m B (getElem? (B .code) (m .done)) ≡ transfer P m (transferAt s i)
-  unfolding coming
-  next-transfer P B d l =
+  passes-transfer : (out₀ out : List ℤ) (P : Program) (B : Block) → Codes s at B → n ≤ done
+      → Passes s m (argumentsOf (some (transferAt s i))) out₀ r out (transfer P m (transferAt s i))
+      → Passes s m (argumentsOf (nextIn m B)) out₀ r out (coming P m B (getElem? (B .code) (m .done)))
+  passes-transfer out₀ out P B d l h =
       let y : min done n ≡ n = min-eq-right l in
-      let q : statementsEnd s (past at 1) (byteAt s at) ≡ i = rw (← e₁, ← e₂) (sym (e₄ ∙ ap (statementsEnd s f) y)) in
-      let a : getElem? (B .code) (m .done) ≡ none = past-at (B .code) (m .done) (omega (arith, d .count)) in
-      rw a (ap (transfer P m) (d .transfer ∙ rw q))
+      let q : i ≡ statementsEnd s (past at 1) (byteAt s at) = rw (← e₁, ← e₂) (e₄ ∙ ap (statementsEnd s f) y) in
+      let k : byteAt s at ≤ m .done = omega arith in
+      rw (next-transfer m B d k i q, comes-transfer m B d k i q P) h
 
-  pub coming-transfer : ltb done n ≡ false → eqb x 1 ≡ false → Rule.Transfer s places m i out r → Rule.Coming s places m at out r
-  coming-transfer l o h P p B d t =
-      is-to s m out r (h (λ q. eqb-false x 1 o (e₅ ∙ q)) P p) (sym (next-transfer P B d (ltb-false done n l)))
+  pub coming-transfer : (out₀ out : List ℤ) → ltb done n ≡ false → eqb x 1 ≡ false → Rule.Transfer s places m i out₀ r out
+      → Rule.Coming s places m at out₀ r out
+  coming-transfer out₀ out l o h P p B d t =
+      passes-transfer out₀ out P B d (ltb-false done n l) (h (λ q. eqb-false x 1 o (e₅ ∙ q)) P p)
 
   -- its expression was evaluated
-  module _ {j g : ℕ} (v : Evaluated) (e₆ : j ≡ past i 1) (e₇ : Evaluates m s j v) (h : g ≡ m .function) where
+  module _ (out : List ℤ) {j g : ℕ} (v : Evaluated) (e₆ : j ≡ past i 1) (e₇ : Evaluates m s j v) (h : g ≡ m .function) where
     came : optional (v .ok) (v .value) ≡ eval m (expressionAt s (past i 1))
-    came = e₇ .is ∙ ap (λ (k : ℕ). eval m (expressionAt s k)) e₆
+    came = evaluated-is v _ _ e₇ ∙ ap (λ (k : ℕ). eval m (expressionAt s k)) e₆
 
-    pub coming-stmt : n < 256 → ltb done n ≡ true → Rule.Valued (ltb done n) s places g x v r → Rule.Coming s places m at out r
-    unfolding coming statementAt
+    pub coming-stmt : n < 256 → ltb done n ≡ true → Rule.Valued (ltb done n) s places g x v r → Rule.Coming s places m at out r out
+    unfolding coming nextIn argumentsOf statementAt
     coming-stmt z l h₁ P p B d t =
         let o = ltb-true done n l in
         let a = next-statement B d o in
         let w : x < temporaries = rw e₅ (each-at InStatement (B .code) (m .done) t a .target) in
         let u : Rule.Valued true s places g x v r = subst (λ (q : Bool). Rule.Valued q s places g x v r) l h₁ in
-        rw (a, ← e₅) (u m (expressionAt s (past i 1)) came w (omega arith) out)
+        rw (a, ← e₅) (passes-none s m out r (u m (expressionAt s (past i 1)) came w (omega arith) out))
 
-    pub coming-if : ltb done n ≡ false → eqb x 1 ≡ true → Rule.Valued (ltb done n) s places g x v r → Rule.Coming s places m at out r
-    unfolding transfer transferOf
+    pub coming-if : ltb done n ≡ false → eqb x 1 ≡ true → Rule.Valued (ltb done n) s places g x v r → Rule.Coming s places m at out r out
+    unfolding transfer transferOf argumentsOf
     coming-if l o h₁ P p B d t =
         let u : Rule.Valued false s places g x v r = subst (λ (q : Bool). Rule.Valued q s places g x v r) l h₁ in
-        is-to s m out r
+        passes-transfer out out P B d (ltb-false done n l)
+        (by-kind s i e₅ refl places m out out r P 1 (eqb-true x 1 o)
+        (passes-none s m out r
         (u P p m (sym h) (expressionAt s (past i 1)) came _ _
-        (λ y. let q = e₇ .end y ∙ ap (expressionEnd s) e₆ in (ap (byteAt s) (sym q), ap (λ (k : ℕ). byteAt s (past k 1)) (sym q))) out)
-        (sym (next-transfer P B d (ltb-false done n l) ∙ kind-is s m i e₅ refl P 1 (eqb-true x 1 o)))
+        (λ y. let q = evaluated-end v _ _ e₇ y ∙ ap (expressionEnd s) e₆ in (ap (byteAt s) (sym q), ap (λ (k : ℕ). byteAt s (past k 1)) (sym q))) out)))
+
+-- the block of a frame
+module _ (s places : List ℕ) (m : Frame) {f b : ℕ} (h : f ≡ m .function) (g : b ≡ m .block) (P : Program) (p : Places s P places) where
+  pub block-none : FindsBlock places f b Nowhere → blockOf P m (m .block) ≡ none
+  unfolding blockOf functionOf
+  block-none d = rw (← h, ← g) (d s P p)
+
+  pub block-some : (at : ℕ) (d : FindsBlock places f b (At at)) → blockOf P m (m .block) ≡ some (d s P p .0)
+  unfolding blockOf functionOf
+  block-some at d = rw (← h, ← g) (d s P p .1)
 
 -- what a frame does next
-module _ (s places : List ℕ) (m : Frame) (out : List ℤ) (r : Acted) {f b : ℕ} (h : f ≡ m .function) (g : b ≡ m .block) where
-  pub acts-nowhere : FindsBlock places f b Nowhere → r ≡ jam → Rule.Acts s places m out r
-  unfolding act acts blockOf functionOf
-  acts-nowhere d e P p = refused s m out r e (rw (← h, ← g, d s P p))
+module _ (s places : List ℕ) (m : Frame) (r : Acted) {f b : ℕ} (h : f ≡ m .function) (g : b ≡ m .block) where
+  pub acts-nowhere : (out : List ℤ) → FindsBlock places f b Nowhere → r ≡ jam → Rule.Acts s places m out r out
+  unfolding act acts nextOf argumentsOf
+  acts-nowhere out d e P p = rw (block-none s places m h g P p d) (passes-none s m out r (refused s m out r e refl))
 
-  pub acts-coming : (at : ℕ) {i : ℕ} → FindsBlock places f b (At at) → i ≡ headEnd s at → Rule.Coming s places m i out r → Rule.Acts s places m out r
-  unfolding act acts blockOf functionOf
-  acts-coming at {i} d e k P p =
+  pub acts-coming : (out₀ out : List ℤ) (at : ℕ) {i : ℕ} → FindsBlock places f b (At at) → i ≡ headEnd s at → Rule.Coming s places m i out₀ r out
+      → Rule.Acts s places m out₀ r out
+  unfolding act acts nextOf
+  acts-coming out₀ out at {i} d e k P p =
       let (B, q, t) = d s P p in
       let c = block-codes s at B (t .behind) (p .short) (t .is) .1 in
       let u = Guarantees.block .gives s at B (t .behind) (t .is) .code in
-      is-to s m out r (k P p B (subst (λ (j : ℕ). Codes s j B) (sym e) c) u) (sym (rw (← h, ← g, q)))
+      rw (block-some s places m h g P p at d) (k P p B (subst (λ (j : ℕ). Codes s j B) (sym e) c) u)

@@ -9,19 +9,19 @@ use lib.Dec.{eqb}
 use lib.IntN.{ℤ, pos}
 use lib.ListN.{length, take, getElem?}
 use Rattle.model.specs.Numbers as No
-use Rattle.model.specs.Lists.{Each}
+use Rattle.model.specs.Lists.{Each, equal}
 use Rattle.model.specs.Limits.{InStatement}
 use Rattle.model.specs.Values.{same}
-use Rattle.model.specs.Syntax.{Expression, Block, Program}
-use Rattle.model.specs.Pool.{Frame, temporaries, mostCalls, begin}
-use Rattle.model.specs.Frames.{eval, goTo, bind, bindAll, deque, callee, enter}
+use Rattle.model.specs.Syntax as Syntax
+use Rattle.model.specs.Syntax.{Expression, Statement, SpawnCall, Block, Program}
+use Rattle.model.specs.Pool.{Frame, temporaries, mostCalls, begin, blockOf}
+use Rattle.model.specs.Frames.{_>>=_, eval, goTo, bind, bindAll, deque, callee, enter}
 use Rattle.model.specs.Rules as Rules
-use Rattle.places.specs.Places.{Places}
+use Rattle.places.specs.Places.{Places, spawnIn}
 use Rattle.bytes.specs.Bytes.{byteAt, past}
 use Rattle.eval.specs.declared.Evaluated.{Evaluated}
-use Rattle.eval.specs.Given.{optional}
-use Rattle.eval.specs.Code.{most, countAt, argumentsAt, transferAt}
-use Rattle.eval.proofs.Decoding.{Codes}
+use Rattle.eval.specs.Given.{optional, filled}
+use Rattle.eval.specs.Code.{most, countAt, argumentsAt, transferAt, Codes}
 use Rattle.rules.specs.declared.Acted.{Acted}
 use Rattle.rules.specs.declared.Ended.{Ended}
 use Rattle.rules.specs.declared.Ended.the-variants.{Gives, Runs}
@@ -83,6 +83,49 @@ pub record Is (s : List ℕ) (m : Frame) (out : List ℤ) (r : Acted) (t : Rules
   pub act : actOf s m r out ≡ t
   pub sound : soundBy (r .does) s m r
 
+-- the transfer of block B, and of its own block, that comes next in the frame m: all statements are done
+abbrev pub transferBy : Block → Option Statement → Option Syntax.Transfer
+transferBy B (some C) = none
+transferBy B none = some (B .transfer)
+
+unfoldable pub nextIn : Frame → Block → Option Syntax.Transfer
+nextIn m B = transferBy B (getElem? (B .code) (m .done))
+
+unfoldable pub nextOf : Program → Frame → Option Syntax.Transfer
+nextOf P m = do
+  B ← blockOf P m (m .block)
+  nextIn m B
+
+-- the temporaries whose values are passed on: x̄ of goto b(x̄), call g(x̄) ▷ b and return(x̄)
+unfoldable pub argumentsOf : Option Syntax.Transfer → List ℕ
+argumentsOf none = []
+argumentsOf (some (Syntax.Transfer.goto b x̄)) = x̄
+argumentsOf (some (Syntax.Transfer.if e b c)) = []
+argumentsOf (some (Syntax.Transfer.call g x̄ b)) = x̄
+argumentsOf (some (Syntax.Transfer.return x̄)) = x̄
+argumentsOf (some (Syntax.Transfer.spork b π)) = []
+argumentsOf (some (Syntax.Transfer.spoin b c)) = []
+
+-- those that the frame m returns: x̄ of return(x̄) alone, with nothing open
+unfoldable pub returnsOf : Frame → Option Syntax.Transfer → List ℕ
+returnsOf m none = []
+returnsOf m (some (Syntax.Transfer.goto b x̄)) = []
+returnsOf m (some (Syntax.Transfer.if e b c)) = []
+returnsOf m (some (Syntax.Transfer.call g x̄ b)) = []
+returnsOf m (some (Syntax.Transfer.return x̄)) = cond (equal (m .calls) []) x̄ []
+returnsOf m (some (Syntax.Transfer.spork b π)) = []
+returnsOf m (some (Syntax.Transfer.spoin b c)) = []
+
+-- those of a spawn call g(x̄), if it is there
+unfoldable pub spawnsOf : Option SpawnCall → List ℕ
+spawnsOf none = []
+spawnsOf (some S) = S .arguments
+
+-- the code's act r is the act t of the frame m, and the values of x̄ are left in the buffer
+pub record Passes (s : List ℕ) (m : Frame) (x̄ : List ℕ) (out : List ℤ) (r : Acted) (out′ : List ℤ) (t : Rules.Act) : Type 0 where
+  pub is : Is s m out′ r t
+  pub left : out′ ≡ filled m x̄ out
+
 -- block b of function f is entered with n values: the code answers what it was given to do, with the place of the parameters, or
 -- the block is not there or takes another number
 pub record Arrives (s : List ℕ) (P : Program) (f b n : ℕ) (d : Does) (x : ℕ) (r : Acted) : Type 0 where
@@ -117,13 +160,19 @@ childBy Push a out = some (begin (a .number) (passed a out))
 childBy Pop a out = none
 childBy Join a out = none
 
-abbrev pub Spawns : List ℕ → List ℕ → Frame → ℕ → List ℤ → Acted → Type 0
-Spawns s places m π out r = (P : Program) → Places s P places → childBy (r .does) r out ≡ Rules.child P m π
+-- spawn call π of the frame m: the child's first frame, and its arguments are left in the buffer
+pub record Child (P : Program) (m : Frame) (π : ℕ) (out : List ℤ) (r : Acted) (out′ : List ℤ) : Type 0 where
+  pub is : childBy (r .does) r out′ ≡ Rules.child P m π
+  pub left : out′ ≡ filled m (spawnsOf (spawnIn (getElem? P (m .function)) π)) out
 
--- the rules, with what they read in place. Those that pass no values on leave the buffer alone
-abbrev pub Goto : List ℕ → List ℕ → Frame → ℕ → List ℤ → Acted → Type 0
-Goto s places m at out r =
-    (P : Program) → Places s P places → Is s m out r (Rules.goto P m (byteAt s at) (argumentsAt s (past at 1)))
+abbrev pub Spawns : List ℕ → List ℕ → Frame → ℕ → List ℤ → Acted → List ℤ → Type 0
+Spawns s places m π out r out′ = (P : Program) → Places s P places → Child P m π out r out′
+
+-- the rules, with what they read in place and what they leave in the buffer
+abbrev pub Goto : List ℕ → List ℕ → Frame → ℕ → List ℤ → Acted → List ℤ → Type 0
+Goto s places m at out r out′ =
+    (P : Program) → Places s P places →
+    Passes s m (argumentsAt s (past at 1)) out r out′ (Rules.goto P m (byteAt s at) (argumentsAt s (past at 1)))
 
 abbrev pub Branch : List ℕ → List ℕ → ℕ → ℕ → ℕ → ℤ → Acted → Type 0
 Branch s places f b c v r =
@@ -139,12 +188,13 @@ Valued false s places f x v r =
     (b c : ℕ) → (v .ok ≡ true → (b ≡ byteAt s (v .end)) × (c ≡ byteAt s (past (v .end) 1))) → (out : List ℤ) →
     Is s m out r (Rules.if P m e b c)
 
-abbrev pub Call : List ℕ → List ℕ → Frame → ℕ → ℕ → List ℤ → Acted → Type 0
-Call s places m at b out r =
-    (P : Program) → Places s P places → Is s m out r (Rules.call P m (byteAt s at) (argumentsAt s (past at 1)) b)
+abbrev pub Call : List ℕ → List ℕ → Frame → ℕ → ℕ → List ℤ → Acted → List ℤ → Type 0
+Call s places m at b out r out′ =
+    (P : Program) → Places s P places →
+    Passes s m (argumentsAt s (past at 1)) out r out′ (Rules.call P m (byteAt s at) (argumentsAt s (past at 1)) b)
 
-abbrev pub Return : List ℕ → Frame → ℕ → List ℤ → Acted → Type 0
-Return s m at out r = Is s m out r (Rules.return m (argumentsAt s at))
+abbrev pub Return : List ℕ → Frame → ℕ → List ℤ → Acted → List ℤ → Type 0
+Return s m at out r out′ = Passes s m (argumentsAt s at) out r out′ (Rules.return m (argumentsAt s at))
 
 abbrev pub Spork : List ℕ → List ℕ → Frame → ℕ → ℕ → Acted → Type 0
 Spork s places m b π r =
@@ -155,9 +205,10 @@ Spoin s places m b c r =
     (P : Program) → Places s P places → (out : List ℤ) → Is s m out r (Rules.spoin P m b c)
 
 -- a transfer that is no if
-abbrev pub Transfer : List ℕ → List ℕ → Frame → ℕ → List ℤ → Acted → Type 0
-Transfer s places m at out r =
-    (byteAt s at ≡ 1 → ⊥) → (P : Program) → Places s P places → Is s m out r (Rules.transfer P m (transferAt s at))
+abbrev pub Transfer : List ℕ → List ℕ → Frame → ℕ → List ℤ → Acted → List ℤ → Type 0
+Transfer s places m at out r out′ =
+    (byteAt s at ≡ 1 → ⊥) → (P : Program) → Places s P places →
+    Passes s m (argumentsOf (some (transferAt s at))) out r out′ (Rules.transfer P m (transferAt s at))
 
 -- spork and spoin, by their kind
 abbrev pub Ends : List ℕ → List ℕ → Frame → ℕ → ℕ → ℕ → Acted → Type 0
@@ -166,14 +217,15 @@ Ends s places m kind b c r =
     Is s m out r (cond (eqb kind 4) (Rules.spork P m b c) (Rules.spoin P m b c))
 
 -- what comes next in a block whose number of statements stands at an offset
-abbrev pub Coming : List ℕ → List ℕ → Frame → ℕ → List ℤ → Acted → Type 0
-Coming s places m at out r =
+abbrev pub Coming : List ℕ → List ℕ → Frame → ℕ → List ℤ → Acted → List ℤ → Type 0
+Coming s places m at out r out′ =
     (P : Program) → Places s P places → (B : Block) → Codes s at B → Each InStatement (B .code) →
-    Is s m out r (Rules.coming P m B (getElem? (B .code) (m .done)))
+    Passes s m (argumentsOf (nextIn m B)) out r out′ (Rules.coming P m B (getElem? (B .code) (m .done)))
 
 -- the act of a frame
-abbrev pub Acts : List ℕ → List ℕ → Frame → List ℤ → Acted → Type 0
-Acts s places m out r = (P : Program) → Places s P places → Is s m out r (Rules.act P m)
+abbrev pub Acts : List ℕ → List ℕ → Frame → List ℤ → Acted → List ℤ → Type 0
+Acts s places m out r out′ =
+    (P : Program) → Places s P places → Passes s m (argumentsOf (nextOf P m)) out r out′ (Rules.act P m)
 
 -- the values that a frame returns, in the buffer, of which there are no more than 8; or none
 abbrev pub givenBy : Ended → List ℤ → Option (List ℤ)
@@ -185,10 +237,13 @@ fewBy (Gives n) = n ≤ most
 fewBy Runs = Unit {0}
 
 -- what the frame m returns by the code of a block whose number of statements stands at an offset, and what it returns
-pub record Ending (s : List ℕ) (m : Frame) (at : ℕ) (out : List ℤ) (r : Ended) : Type 0 where
+pub record Ending (s : List ℕ) (m : Frame) (at : ℕ) (out : List ℤ) (r : Ended) (out′ : List ℤ) : Type 0 where
   pub few : fewBy r
-  pub is : (P : Program) (B : Block) → Codes s at B → givenBy r out ≡ Rules.returned [] (Rules.coming P m B (getElem? (B .code) (m .done)))
+  pub is : (P : Program) (B : Block) → Codes s at B →
+      givenBy r out′ ≡ Rules.returned [] (Rules.coming P m B (getElem? (B .code) (m .done)))
+  pub left : (B : Block) → Codes s at B → out′ ≡ filled m (returnsOf m (nextIn m B)) out
 
-pub record Giving (s places : List ℕ) (m : Frame) (out : List ℤ) (r : Ended) : Type 0 where
+pub record Giving (s places : List ℕ) (m : Frame) (out : List ℤ) (r : Ended) (out′ : List ℤ) : Type 0 where
   pub few : fewBy r
-  pub is : (P : Program) → Places s P places → givenBy r out ≡ Rules.returned [] (Rules.act P m)
+  pub is : (P : Program) → Places s P places → givenBy r out′ ≡ Rules.returned [] (Rules.act P m)
+  pub left : (P : Program) → Places s P places → out′ ≡ filled m (returnsOf m (nextOf P m)) out

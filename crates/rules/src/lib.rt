@@ -1,44 +1,19 @@
 // The ten rules: what the frame at a place of the pool's words does next. The words and the table are read in place; no word is
 // touched. Values that are passed on go into a buffer of the caller's.
+use answers::No;
+use answers::Rule;
 use eval::Evaluated;
 use frames::Pool;
 use places::Place;
 ghost use mathlib.Core.Path.{_≡_};
 ghost use Prim.Native.Nat.{_+_, _≤_, min};
 ghost use lib.ListN.{length};
-ghost use Rattle.model.specs.Numbers as No;
+ghost use Rattle.model.specs.Numbers as Numbers;
 ghost use Rattle.model.specs.Pool.{frameWords};
 ghost use Rattle.frames.specs.InPlace.{frameAt};
 ghost use Rattle.eval.specs.Code.{most, statementsEnd};
 ghost use Rattle.rules.specs.Acts.{acting, Enters, Takes, Spawns, Ending, Giving};
-ghost use Rattle.rules.specs.Acts as Rule;
-
-// The numbers of the rules, and the one of a frame to which none applies.
-pub struct Number {}
-
-impl Number {
-    pub const STMT: u8 = 1;
-
-    pub const GOTO: u8 = 2;
-
-    pub const THEN: u8 = 3;
-
-    pub const ELSE: u8 = 4;
-
-    pub const CALL: u8 = 5;
-
-    pub const RETURN: u8 = 6;
-
-    pub const SPORK: u8 = 7;
-
-    pub const UNPR: u8 = 8;
-
-    pub const PROM: u8 = 9;
-
-    pub const PROMOTE: u8 = 10;
-
-    pub const STUCK: u8 = 19;
-}
+ghost use Rattle.rules.specs.Acts as Acts;
 
 // What a frame does next: it refuses, by `number`; it binds temporary `number` to `value`; it enters `block` by rule `number`; it
 // enters `block` with spawn call `number` open, or with its last call closed; it calls function `number` and waits at `block`; it
@@ -65,7 +40,7 @@ pub struct Acted {
 }
 
 // The acts.
-pub fn doing(does: Does, number: u8, block: u8, count: u8) -> Acted
+fn doing(does: Does, number: u8, block: u8, count: u8) -> Acted
     ensures { λ r. ⌜ r ≡ acting does number block count ⌝ }
 {
     Acted {
@@ -85,9 +60,9 @@ pub fn refuse(n: u8) -> Acted
 }
 
 fn stuck() -> Acted
-    ensures { λ r. ⌜ r ≡ acting Does.Refuse No.stuck 0 0 ⌝ }
+    ensures { λ r. ⌜ r ≡ acting Does.Refuse Numbers.stuck 0 0 ⌝ }
 {
-    refuse(Number::STUCK)
+    refuse(No::STUCK)
 }
 
 // Block b of function f is entered with n values, if it is there and takes as many.
@@ -133,7 +108,7 @@ pub fn child(
     out: &mut [i32],
 ) -> Acted
     requires { ⌜ (k + frameWords ≤ length (now ws)) × (length (now out) ≡ most) ⌝ }
-    ensures { λ r. ⌜ Spawns (now (s .entry)) (now (places .entry)) (frameAt (now (ws .entry)) k) call (now (out .exit)) r ⌝ }
+    ensures { λ r. ⌜ Spawns (now (s .entry)) (now (places .entry)) (frameAt (now (ws .entry)) k) call (now (out .entry)) r (now (out .exit)) ⌝ }
 {
     match places::spawn(places, frames::function(ws, k) as usize, call as usize) {
         Place::At(at) => {
@@ -155,7 +130,7 @@ pub fn child(
 // goto: the block and its arguments at an offset.
 fn goto(s: &[u8], places: &[u16; 656], ws: &[i32], k: usize, at: usize, out: &mut [i32]) -> Acted
     requires { ⌜ (k + frameWords ≤ length (now ws)) × (length (now out) ≡ most) ⌝ }
-    ensures { λ r. ⌜ Rule.Goto (now (s .entry)) (now (places .entry)) (frameAt (now (ws .entry)) k) at (now (out .exit)) r ⌝ }
+    ensures { λ r. ⌜ Acts.Goto (now (s .entry)) (now (places .entry)) (frameAt (now (ws .entry)) k) at (now (out .entry)) r (now (out .exit)) ⌝ }
 {
     let list = bytes::after(at, 1);
     if !eval::look_all(s, list, ws, k, out) {
@@ -168,23 +143,23 @@ fn goto(s: &[u8], places: &[u16; 656], ws: &[i32], k: usize, at: usize, out: &mu
         bytes::byte(s, at),
         eval::count(s, list),
         Does::Enter,
-        Number::GOTO,
+        Rule::GOTO,
     )
 }
 
 // then and else: the value is not 0, or is.
 fn branch(s: &[u8], places: &[u16; 656], f: u8, b: u8, c: u8, v: i32) -> Acted
-    ensures { λ r. ⌜ Rule.Branch (now (s .entry)) (now (places .entry)) f b c v r ⌝ }
+    ensures { λ r. ⌜ Acts.Branch (now (s .entry)) (now (places .entry)) f b c v r ⌝ }
 {
     if v == 0 {
-        return enter(s, places, f, c, 0, Does::Enter, Number::ELSE);
+        return enter(s, places, f, c, 0, Does::Enter, Rule::ELSE);
     }
-    enter(s, places, f, b, 0, Does::Enter, Number::THEN)
+    enter(s, places, f, b, 0, Does::Enter, Rule::THEN)
 }
 
 // stmt and if: a statement of temporary x, or an if, whose expression was evaluated.
 fn valued(s: &[u8], places: &[u16; 656], f: u8, statement: bool, x: u8, v: Evaluated) -> Acted
-    ensures { λ r. ⌜ Rule.Valued statement (now (s .entry)) (now (places .entry)) f x v r ⌝ }
+    ensures { λ r. ⌜ Acts.Valued statement (now (s .entry)) (now (places .entry)) f x v r ⌝ }
 {
     if !v.ok {
         return stuck();
@@ -220,7 +195,7 @@ fn call(
     out: &mut [i32],
 ) -> Acted
     requires { ⌜ (k + frameWords ≤ length (now ws)) × (length (now out) ≡ most) ⌝ }
-    ensures { λ r. ⌜ Rule.Call (now (s .entry)) (now (places .entry)) (frameAt (now (ws .entry)) k) at b (now (out .exit)) r ⌝ }
+    ensures { λ r. ⌜ Acts.Call (now (s .entry)) (now (places .entry)) (frameAt (now (ws .entry)) k) at b (now (out .entry)) r (now (out .exit)) ⌝ }
 {
     let list = bytes::after(at, 1);
     if !eval::look_all(s, list, ws, k, out) {
@@ -240,7 +215,7 @@ fn call(
 // return: with nothing open.
 fn give_back(s: &[u8], ws: &[i32], k: usize, at: usize, out: &mut [i32]) -> Acted
     requires { ⌜ (k + frameWords ≤ length (now ws)) × (length (now out) ≡ most) ⌝ }
-    ensures { λ r. ⌜ Rule.Return (now (s .entry)) (frameAt (now (ws .entry)) k) at (now (out .exit)) r ⌝ }
+    ensures { λ r. ⌜ Acts.Return (now (s .entry)) (frameAt (now (ws .entry)) k) at (now (out .entry)) r (now (out .exit)) ⌝ }
 {
     if !eval::look_all(s, at, ws, k, out) {
         return stuck();
@@ -254,7 +229,7 @@ fn give_back(s: &[u8], ws: &[i32], k: usize, at: usize, out: &mut [i32]) -> Acte
 // spork: the spawn call is there, and under four are open. No argument is read.
 fn spork(s: &[u8], places: &[u16; 656], ws: &[i32], k: usize, b: u8, call: u8) -> Acted
     requires { ⌜ k + frameWords ≤ length (now ws) ⌝ }
-    ensures { λ r. ⌜ Rule.Spork (now (s .entry)) (now (places .entry)) (frameAt (now (ws .entry)) k) b call r ⌝ }
+    ensures { λ r. ⌜ Acts.Spork (now (s .entry)) (now (places .entry)) (frameAt (now (ws .entry)) k) b call r ⌝ }
 {
     let f = frames::function(ws, k);
     match places::spawn(places, f as usize, call as usize) {
@@ -272,7 +247,7 @@ fn spork(s: &[u8], places: &[u16; 656], ws: &[i32], k: usize, b: u8, call: u8) -
 // unpr and prom: the last open call is unpromoted, or promoted, as all of the frame's then are.
 fn spoin(s: &[u8], places: &[u16; 656], ws: &[i32], k: usize, b: u8, c: u8) -> Acted
     requires { ⌜ k + frameWords ≤ length (now ws) ⌝ }
-    ensures { λ r. ⌜ Rule.Spoin (now (s .entry)) (now (places .entry)) (frameAt (now (ws .entry)) k) b c r ⌝ }
+    ensures { λ r. ⌜ Acts.Spoin (now (s .entry)) (now (places .entry)) (frameAt (now (ws .entry)) k) b c r ⌝ }
 {
     let n = frames::opened(ws, k);
     if n == 0 {
@@ -294,7 +269,7 @@ fn transfer(
     out: &mut [i32],
 ) -> Acted
     requires { ⌜ (k + frameWords ≤ length (now ws)) × (length (now out) ≡ most) ⌝ }
-    ensures { λ r. ⌜ Rule.Transfer (now (s .entry)) (now (places .entry)) (frameAt (now (ws .entry)) k) at (now (out .exit)) r ⌝ }
+    ensures { λ r. ⌜ Acts.Transfer (now (s .entry)) (now (places .entry)) (frameAt (now (ws .entry)) k) at (now (out .entry)) r (now (out .exit)) ⌝ }
 {
     let kind = bytes::byte(s, at);
     let first = bytes::after(at, 1);
@@ -330,7 +305,7 @@ fn transfer(
 // spork and spoin, by their kind.
 fn ends(s: &[u8], places: &[u16; 656], ws: &[i32], k: usize, kind: u8, b: u8, c: u8) -> Acted
     requires { ⌜ k + frameWords ≤ length (now ws) ⌝ }
-    ensures { λ r. ⌜ Rule.Ends (now (s .entry)) (now (places .entry)) (frameAt (now (ws .entry)) k) kind b c r ⌝ }
+    ensures { λ r. ⌜ Acts.Ends (now (s .entry)) (now (places .entry)) (frameAt (now (ws .entry)) k) kind b c r ⌝ }
 {
     if kind == 4 {
         return spork(s, places, ws, k, b, c);
@@ -353,7 +328,7 @@ fn next_at(s: &[u8], at: usize, done: u8, n: u8) -> usize
 // have their expression at the same place, behind one byte.
 fn coming(s: &[u8], places: &[u16; 656], ws: &[i32], k: usize, at: usize, out: &mut [i32]) -> Acted
     requires { ⌜ (k + frameWords ≤ length (now ws)) × (length (now out) ≡ most) ⌝ }
-    ensures { λ r. ⌜ Rule.Coming (now (s .entry)) (now (places .entry)) (frameAt (now (ws .entry)) k) at (now (out .exit)) r ⌝ }
+    ensures { λ r. ⌜ Acts.Coming (now (s .entry)) (now (places .entry)) (frameAt (now (ws .entry)) k) at (now (out .entry)) r (now (out .exit)) ⌝ }
 {
     let n = bytes::byte(s, at);
     let done = frames::done(ws, k);
@@ -370,7 +345,7 @@ fn coming(s: &[u8], places: &[u16; 656], ws: &[i32], k: usize, at: usize, out: &
 // What the frame at k does next.
 pub fn act(s: &[u8], places: &[u16; 656], ws: &[i32], k: usize, out: &mut [i32]) -> Acted
     requires { ⌜ (k + frameWords ≤ length (now ws)) × (length (now out) ≡ most) ⌝ }
-    ensures { λ r. ⌜ Rule.Acts (now (s .entry)) (now (places .entry)) (frameAt (now (ws .entry)) k) (now (out .exit)) r ⌝ }
+    ensures { λ r. ⌜ Acts.Acts (now (s .entry)) (now (places .entry)) (frameAt (now (ws .entry)) k) (now (out .entry)) r (now (out .exit)) ⌝ }
 {
     match places::block(
         places,
@@ -391,7 +366,7 @@ pub enum Ended {
 // What a frame returns by the code of its block: the number of the block's statements stands at an offset.
 fn ending(s: &[u8], ws: &[i32], k: usize, at: usize, out: &mut [i32]) -> Ended
     requires { ⌜ (k + frameWords ≤ length (now ws)) × (length (now out) ≡ most) ⌝ }
-    ensures { λ r. ⌜ Ending (now (s .entry)) (frameAt (now (ws .entry)) k) at (now (out .exit)) r ⌝ }
+    ensures { λ r. ⌜ Ending (now (s .entry)) (frameAt (now (ws .entry)) k) at (now (out .entry)) r (now (out .exit)) ⌝ }
 {
     let n = bytes::byte(s, at);
     if frames::done(ws, k) < n {
@@ -414,7 +389,7 @@ fn ending(s: &[u8], ws: &[i32], k: usize, at: usize, out: &mut [i32]) -> Ended
 // What the frame at k returns.
 pub fn giving(s: &[u8], places: &[u16; 656], ws: &[i32], k: usize, out: &mut [i32]) -> Ended
     requires { ⌜ (k + frameWords ≤ length (now ws)) × (length (now out) ≡ most) ⌝ }
-    ensures { λ r. ⌜ Giving (now (s .entry)) (now (places .entry)) (frameAt (now (ws .entry)) k) (now (out .exit)) r ⌝ }
+    ensures { λ r. ⌜ Giving (now (s .entry)) (now (places .entry)) (frameAt (now (ws .entry)) k) (now (out .entry)) r (now (out .exit)) ⌝ }
 {
     match places::block(
         places,

@@ -109,10 +109,10 @@ module _ {s : List ℕ} {ws : List ℤ} {i : ℕ} (d : Acted) (out : List ℤ) w
             in
             (refl, x .held)
 
-pub steps-applied : {s places : List ℕ} {ws : List ℤ} {i : ℕ} (d : Acted) (out : List ℤ) (r : Made) (ws′ : List ℤ)
-    → DecidesAt s places ws i out d → Applied s ws i d out r ws′ → Steps s places ws i r ws′
-steps-applied {s} {places} {ws} d out r ws′ f g P a t b h =
-    let x = f P a t b h in
+pub steps-applied : {s places : List ℕ} {ws : List ℤ} {i : ℕ} (d : Acted) (out₀ out : List ℤ) (r : Made) (ws′ : List ℤ)
+    → DecidesAt s places ws i out₀ d out → Applied s ws i d out r ws′ → Steps s places ws i r ws′
+steps-applied {s} {places} {ws} d out₀ out r ws′ f g P a t b h =
+    let x = f P a t b h .decided in
     subst⁻¹ (λ (x : Result). Comes ws (before a x) r ws′) (x .is .is)
     (g a t b (record { thread = h .thread; small = small-frames h; sound = x .sound }))
 
@@ -192,7 +192,7 @@ module _ {s places : List ℕ} {ws : List ℤ} {i : ℕ} (o : Unpromoted) (f : F
     promotes-full l P a t b h =
         rw (le-ltb (length (a ++ t ∷ b)) mostThreads (omega (arith, count h)), promote-is h false) (refl, refl)
 
-    module _ (out : List ℤ) (d : Acted) (l : m < mostThreads) (g : Spawns s places (frameAt ws (o .at)) (o .call) out d) where
+    module _ (out₀ out : List ℤ) (d : Acted) (l : m < mostThreads) (g : Spawns s places (frameAt ws (o .at)) (o .call) out₀ d out) where
       with-room : {P : Program} {a : Pool} {t : Thread} {b : Pool} (h : Known s places ws i P a t b)
           → promote P (ltb (length (a ++ t ∷ b)) mostThreads) t b
           ≡ spawned (parent (holder h .frame) (holder h .newer) (holder h .older)) b (childBy (d .does) d out)
@@ -201,7 +201,7 @@ module _ {s places : List ℕ} {ws : List ℤ} {i : ℕ} (o : Unpromoted) (f : F
           ap (λ (room : Bool). promote P room t b) (lt-ltb (length (a ++ t ∷ b)) mostThreads (omega (arith, count h)))
           ∙ promote-is h true
           ∙ ap (spawned (parent (holder h .frame) (holder h .newer) (holder h .older)) b)
-          (ap (λ (x : Frame). child P x (o .call)) (sym (frame-is h (holder h .place) (holder h .at))) ∙ sym (g P (h .table)))
+          (ap (λ (x : Frame). child P x (o .call)) (sym (frame-is h (holder h .place) (holder h .at))) ∙ sym (g P (h .table) .is))
 
       pub promotes-unmet : Among (0 ∷ 1 ∷ 2 ∷ 3 ∷ 4 ∷ 6 ∷ 7 ∷ []) (d .does) → Promotes s places ws i (Refused No.stuck) ws
       unfolding before spawned

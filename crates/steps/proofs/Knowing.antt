@@ -15,7 +15,7 @@ use Rattle.frames.specs.InPlace.{frameAt, newestAt}
 use Rattle.frames.proofs.Pools.{small-thread}
 use Rattle.frames.proofs.InPlace.{frame-at, frame-held, newest-held}
 use Rattle.rules.specs.declared.Acted.{Acted}
-use Rattle.rules.specs.Acts.{Is, Acts}
+use Rattle.rules.specs.Acts.{nextOf, argumentsOf, Passes, Acts}
 use Rattle.steps.specs.Choice.{Known}
 use Rattle.steps.proofs.Writing.{next-thread}
 
@@ -37,8 +37,9 @@ module _ {s places : List ℕ} {ws : List ℤ} {i : ℕ} {P : Program} {a : Pool
   frame-is e x = ap (frameAt ws) e ∙ frame-at (frame-held (h .thread) x (small-at x))
 
   -- what the newest frame does
-  pub acts-as : (d : Acted) (out : List ℤ) {k : ℕ} → k ≡ newestAt ws i → Acts s places (frameAt ws k) out d → Is s (t .newest) out d (act P (t .newest))
-  acts-as d out e q = subst (λ (m : Frame). Is s m out d (act P m)) (newest-is e) (q P (h .table))
+  pub acts-as : (d : Acted) (out₀ out : List ℤ) {k : ℕ} → k ≡ newestAt ws i → Acts s places (frameAt ws k) out₀ d out
+      → Passes s (t .newest) (argumentsOf (nextOf P (t .newest))) out₀ d out (act P (t .newest))
+  acts-as d out₀ out e q = subst (λ (m : Frame). Passes s m (argumentsOf (nextOf P m)) out₀ d out (act P m)) (newest-is e) (q P (h .table))
 
 -- the thread directly behind
 pub next-known : {s places : List ℕ} {ws : List ℤ} {i : ℕ} {P : Program} {a : Pool} {t u : Thread} {b : Pool}

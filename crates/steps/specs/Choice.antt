@@ -20,13 +20,13 @@ use Rattle.places.specs.Places.{Places}
 use Rattle.frames.specs.Frame.{Small}
 use Rattle.frames.specs.Held.{startOf, Held, ThreadAt, FrameAt}
 use Rattle.eval.specs.declared.Looked.{Looked}
-use Rattle.eval.specs.Given.{lookedOf}
+use Rattle.eval.specs.Given.{lookedAs, filled}
 use Rattle.eval.specs.Code.{most}
 use Rattle.rules.specs.declared.Acted.{Acted}
 use Rattle.rules.specs.declared.Ended.{Ended}
 use Rattle.rules.specs.declared.Does.{Does}
 use Rattle.rules.specs.declared.Does.the-variants.{Refuse, Bind, Enter, Open, Close, Push, Pop, Join}
-use Rattle.rules.specs.Acts.{arrived, closed, actBy, soundBy, Parameters, Is, givenBy, fewBy}
+use Rattle.rules.specs.Acts.{arrived, closed, actBy, soundBy, Parameters, Is, nextOf, argumentsOf, returnsOf, givenBy, fewBy}
 use Rattle.steps.specs.declared.Made.{Made}
 use Rattle.steps.specs.declared.Made.the-variants.{Rule, Refused}
 use Rattle.steps.specs.declared.Stepper.{Stepper}
@@ -79,18 +79,27 @@ pub record Known (s places : List ℕ) (ws : List ℤ) (i : ℕ) (P : Program) (
   pub thread : ThreadAt ws i a t b
   pub valid : IsPool P (a ++ t ∷ b)
 
--- thread i is ended, with these values; with so many of a buffer
+-- the values of thread i, if it is ended
 abbrev pub Ends : List ℕ → List ℕ → List ℤ → ℕ → Looked → Type 0
-Ends s places ws i r = (P : Program) (a : Pool) (t : Thread) (b : Pool) → Known s places ws i P a t b → lookedOf r ≡ ended P t
+Ends s places ws i r = (P : Program) (a : Pool) (t : Thread) (b : Pool) → Known s places ws i P a t b → r ≡ lookedAs (ended P t)
 
--- what a thread gives, with its values in a buffer
-pub record Brought (P : Program) (t : Thread) (out : List ℤ) (r : Ended) : Type 0 where
-  pub is : givenBy r out ≡ ended P t
+-- the temporaries that thread t returns: those of its one frame; with older frames it is not ended
+abbrev pub ofOne : List Frame → List ℕ → List ℕ
+ofOne [] x̄ = x̄
+ofOne (k ∷ K) x̄ = []
+
+abbrev pub endsWith : Program → Thread → List ℕ
+endsWith P t = ofOne (t .older) (returnsOf (t .newest) (nextOf P (t .newest)))
+
+-- what a thread gives, with its values in a buffer, and what is left there
+pub record Brought (P : Program) (t : Thread) (out : List ℤ) (r : Ended) (out′ : List ℤ) : Type 0 where
+  pub is : givenBy r out′ ≡ ended P t
   pub few : fewBy r
+  pub left : out′ ≡ filled (t .newest) (endsWith P t) out
 
-abbrev pub Brings : List ℕ → List ℕ → List ℤ → ℕ → List ℤ → Ended → Type 0
-Brings s places ws i out r =
-    (P : Program) (a : Pool) (t : Thread) (b : Pool) → Known s places ws i P a t b → Brought P t out r
+abbrev pub Brings : List ℕ → List ℕ → List ℤ → ℕ → List ℤ → Ended → List ℤ → Type 0
+Brings s places ws i out r out′ =
+    (P : Program) (a : Pool) (t : Thread) (b : Pool) → Known s places ws i P a t b → Brought P t out r out′
 
 -- what writing a decision of thread t rests on
 abbrev pub soundIn : Does → List ℕ → Thread → Pool → Acted → Type 0
@@ -108,6 +117,11 @@ pub record Decided (P : Program) (s : List ℕ) (t : Thread) (b : Pool) (out : L
   pub is : Decides P t b (decisionOf s t d out)
   pub sound : soundIn (d .does) s t b d
 
+-- the act d is decided, and so many words are left in the buffer
+pub record DecidedWith (P : Program) (s : List ℕ) (t : Thread) (b : Pool) (w̄ : List ℤ) (d : Acted) (out : List ℤ) : Type 0 where
+  pub decided : Decided P s t b out d
+  pub left : out ≡ w̄
+
 -- thread i: its newest frame calls, returns n values, waits at a promoted spoin, does anything
 abbrev pub Calls : List ℤ → ℕ → Acted → Acted → Type 0
 Calls ws i d r =
@@ -119,14 +133,35 @@ Returns s places ws i n r =
     (P : Program) (a : Pool) (t : Thread) (b : Pool) → Known s places ws i P a t b → (out : List ℤ) → length out ≡ most → n ≤ most
     → act P (t .newest) ≡ Act.pop (take n out) → Decided P s t b out r
 
-abbrev pub Joins : List ℕ → List ℕ → List ℤ → ℕ → ℕ → ℕ → List ℤ → Acted → Type 0
-Joins s places ws i f c out r =
-    (P : Program) (a : Pool) (t : Thread) (b : Pool) → Known s places ws i P a t b → f ≡ t .newest .function
-    → act P (t .newest) ≡ Act.join (closed (t .newest) (t .newest .promoted - 1)) c → soundBy Join s (t .newest) r → Decided P s t b out r
+-- what is left in the buffer by the thread directly behind, whose values a join looks at
+abbrev pub leftByFirst : Program → Pool → List ℤ → List ℤ
+leftByFirst P [] out = out
+leftByFirst P (u ∷ b) out = filled (u .newest) (endsWith P u) out
 
-abbrev pub DecidesAt : List ℕ → List ℕ → List ℤ → ℕ → List ℤ → Acted → Type 0
-DecidesAt s places ws i out r =
-    (P : Program) (a : Pool) (t : Thread) (b : Pool) → Known s places ws i P a t b → Decided P s t b out r
+abbrev pub Joins : List ℕ → List ℕ → List ℤ → ℕ → ℕ → ℕ → List ℤ → Acted → List ℤ → Type 0
+Joins s places ws i f c out r out′ =
+    (P : Program) (a : Pool) (t : Thread) (b : Pool) → Known s places ws i P a t b → f ≡ t .newest .function
+    → act P (t .newest) ≡ Act.join (closed (t .newest) (t .newest .promoted - 1)) c → soundBy Join s (t .newest) r
+    → DecidedWith P s t b (leftByFirst P b out) r out′
+
+-- what the newest frame leaves in the buffer: the values that it passes on
+abbrev pub passedBy : Program → Frame → List ℤ → List ℤ
+passedBy P m out = filled m (argumentsOf (nextOf P m)) out
+
+-- what a step leaves there: at a join also the values of the thread directly behind
+abbrev pub leftBy : Program → Pool → Act → List ℤ → List ℤ
+leftBy P b (Act.refuse n) out = out
+leftBy P b (Act.stay rule k) out = out
+leftBy P b (Act.push k l) out = out
+leftBy P b (Act.pop v̄) out = out
+leftBy P b (Act.join k c) out = leftByFirst P b out
+
+abbrev pub leftIn : Program → Thread → Pool → List ℤ → List ℤ
+leftIn P t b out = leftBy P b (act P (t .newest)) (passedBy P (t .newest) out)
+
+abbrev pub DecidesAt : List ℕ → List ℕ → List ℤ → ℕ → List ℤ → Acted → List ℤ → Type 0
+DecidesAt s places ws i out r out′ =
+    (P : Program) (a : Pool) (t : Thread) (b : Pool) → Known s places ws i P a t b → DecidedWith P s t b (leftIn P t b out) r out′
 
 -- a step makes a rule, or is refused
 abbrev pub Goes : Program → Pool → ℕ → Type 0

@@ -1,12 +1,13 @@
 // One choice, in place, of a pool that is known to be valid: what a step would do is decided first, then written. Values that are
 // passed on stand in one buffer.
+use answers::No;
+use answers::Rule;
 use eval::Looked;
 use eval::Values;
 use frames::Pool;
 use rules::Acted;
 use rules::Does;
 use rules::Ended;
-use rules::Number;
 ghost use mathlib.Core.Path.{_≡_};
 ghost use Prim.Native.Nat.{_+_, _<_, _≤_};
 ghost use lib.ListN.{length};
@@ -39,7 +40,7 @@ pub enum Stepper {
 // How many values thread i gives, in a buffer, if it is ended: its one frame returns.
 fn returned(s: &[u8], places: &[u16; 656], ws: &[i32], i: usize, out: &mut [i32]) -> Ended
     requires { ⌜ (length (now ws) ≡ poolWords) × (i < mostThreads) × (length (now out) ≡ most) ⌝ }
-    ensures { λ r. ⌜ Brings (now (s .entry)) (now (places .entry)) (now (ws .entry)) i (now (out .exit)) r ⌝ }
+    ensures { λ r. ⌜ Brings (now (s .entry)) (now (places .entry)) (now (ws .entry)) i (now (out .entry)) r (now (out .exit)) ⌝ }
 {
     if frames::frame_count(ws, i) != 1 {
         return Ended::Runs;
@@ -62,7 +63,10 @@ pub fn ended(s: &[u8], places: &[u16; 656], ws: &[i32], i: usize) -> Looked
         },
         Ended::Runs => Looked {
             ok: false,
-            values: Values { count: 0, at: out },
+            values: Values {
+                count: 0,
+                at: [0i32; Values::MOST],
+            },
         },
     }
 }
@@ -75,7 +79,7 @@ fn calling(ws: &[i32], i: usize, a: Acted) -> Acted
     if frames::frame_count(ws, i) < Pool::FRAMES {
         a
     } else {
-        rules::refuse(18)
+        rules::refuse(No::FRAMES)
     }
 }
 
@@ -86,7 +90,7 @@ fn returning(s: &[u8], places: &[u16; 656], ws: &[i32], i: usize, k: usize, n: u
     ensures { λ r. ⌜ Returns (now (s .entry)) (now (places .entry)) (now (ws .entry)) i n r ⌝ }
 {
     if frames::frame_count(ws, i) < 2 {
-        return rules::refuse(16);
+        return rules::refuse(No::ENDED);
     }
     let l = k - Pool::FRAME_WORDS;
     let f = frames::function(ws, l);
@@ -105,23 +109,23 @@ fn joining(
     out: &mut [i32],
 ) -> Acted
     requires { ⌜ (length (now ws) ≡ poolWords) × (i < mostThreads) × (length (now out) ≡ most) ⌝ }
-    ensures { λ r. ⌜ Joins (now (s .entry)) (now (places .entry)) (now (ws .entry)) i f c (now (out .exit)) r ⌝ }
+    ensures { λ r. ⌜ Joins (now (s .entry)) (now (places .entry)) (now (ws .entry)) i f c (now (out .entry)) r (now (out .exit)) ⌝ }
 {
     let m = frames::thread_count(ws);
     if m <= i + 1 {
-        return rules::refuse(17);
+        return rules::refuse(No::WAITS);
     }
     let r = returned(s, places, ws, i + 1, out);
     match r {
         Ended::Gives(n) => rules::enter(s, places, f, c, n, Does::Join, c),
-        Ended::Runs => rules::refuse(17),
+        Ended::Runs => rules::refuse(No::WAITS),
     }
 }
 
 // What a step of thread i would do, whose newest frame is at k. Nothing is written.
 fn decide(s: &[u8], places: &[u16; 656], ws: &[i32], i: usize, k: usize, out: &mut [i32]) -> Acted
     requires { ⌜ (length (now ws) ≡ poolWords) × (i < mostThreads) × (k ≡ newestAt (now ws) i) × (length (now out) ≡ most) ⌝ }
-    ensures { λ r. ⌜ DecidesAt (now (s .entry)) (now (places .entry)) (now (ws .entry)) i (now (out .exit)) r ⌝ }
+    ensures { λ r. ⌜ DecidesAt (now (s .entry)) (now (places .entry)) (now (ws .entry)) i (now (out .entry)) r (now (out .exit)) ⌝ }
 {
     let a = rules::act(s, places, ws, k, out);
     let does = a.does;
@@ -231,7 +235,7 @@ fn apply(s: &[u8], ws: &mut [i32], i: usize, k: usize, d: Acted, out: &[i32]) ->
         Does::Refuse => Made::Refused(d.number),
         Does::Bind => {
             set(ws, k, d.number, d.value);
-            Made::Rule(Number::STMT)
+            Made::Rule(Rule::STMT)
         }
         Does::Enter => {
             arrive(s, ws, k, d.block, d.parameters, out);
@@ -239,23 +243,23 @@ fn apply(s: &[u8], ws: &mut [i32], i: usize, k: usize, d: Acted, out: &[i32]) ->
         }
         Does::Open => {
             open_one(ws, k, d.number, d.block);
-            Made::Rule(Number::SPORK)
+            Made::Rule(Rule::SPORK)
         }
         Does::Close => {
             shut(ws, k, d.block);
-            Made::Rule(Number::UNPR)
+            Made::Rule(Rule::UNPR)
         }
         Does::Push => {
             push(ws, i, k, d.number, d.count, d.block, out);
-            Made::Rule(Number::CALL)
+            Made::Rule(Rule::CALL)
         }
         Does::Pop => {
             pop(s, ws, i, k, d.block, d.parameters, out);
-            Made::Rule(Number::RETURN)
+            Made::Rule(Rule::RETURN)
         }
         Does::Join => {
             unite(s, ws, i, k, d.block, d.parameters, out);
-            Made::Rule(Number::PROM)
+            Made::Rule(Rule::PROM)
         }
     }
 }
@@ -314,10 +318,10 @@ fn promote(s: &[u8], places: &[u16; 656], ws: &mut [i32], i: usize) -> Made
 {
     let o = oldest(ws, i);
     if !o.ok {
-        return Made::Refused(20);
+        return Made::Refused(No::PROMOTED);
     }
     if Pool::THREADS <= frames::thread_count(ws) {
-        return Made::Refused(21);
+        return Made::Refused(No::THREADS);
     }
     let mut out = [0i32; Values::MOST];
     let a = rules::child(s, places, ws, o.at, o.call, &mut out);
@@ -325,9 +329,9 @@ fn promote(s: &[u8], places: &[u16; 656], ws: &mut [i32], i: usize) -> Made
     match does {
         Does::Push => {
             spawn(ws, i, o.at, a.number, a.count, &out);
-            Made::Rule(Number::PROMOTE)
+            Made::Rule(Rule::PROMOTE)
         }
-        _ => Made::Refused(Number::STUCK),
+        _ => Made::Refused(No::STUCK),
     }
 }
 
@@ -337,11 +341,11 @@ pub fn choice(s: &[u8], places: &[u16; 656], ws: &mut [i32], kind: u32, thread: 
     ensures { λ r. ⌜ Chooses (now (s .entry)) (now (places .entry)) (now (ws .entry)) kind thread r (now (ws .exit)) ⌝ }
 {
     if 1 < kind {
-        return Made::Refused(14);
+        return Made::Refused(No::KIND);
     }
     let i = thread as usize;
     if frames::thread_count(ws) <= i {
-        return Made::Refused(15);
+        return Made::Refused(No::THREAD);
     }
     if kind == 0 {
         step(s, places, ws, i)

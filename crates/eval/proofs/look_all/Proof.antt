@@ -9,7 +9,7 @@ use Rattle.eval.proofs.look_all.Statement.{statement}
 use Rattle.eval.proofs.look_all.Tie as tie
 
 abbrev Inv-loop : tie.InvT-loop
-Inv-loop s at ws k out₀ n p₀ i₀ out p i = Read (frameAt ws k) s p₀ n out p i
+Inv-loop s at ws k out₀ n p₀ i₀ out p i = Read (frameAt ws k) s p₀ n out₀ out p i
 
 abbrev μ-loop : tie.MeasureT-loop
 μ-loop s at ws k out₀ n p₀ i₀ out p i = n - i

@@ -21,5 +21,5 @@ giving-spec =
     (λ c κs. search needs)
     (λ c. search needs)
     (λ c. search needs)
-    (λ c. let a = c .before .before .before .before .before .before .before .before .before .before .before .args in let m = frameAt (now (a .ws)) (a .k) in giving-at (now (a .s)) (now (a .places)) m _ (c .before .before .before .before .before .before .before .before .before .function .ensures) (c .before .before .before .before .before .before .before .before .block .ensures) _ (c .before .ending .result) (block-at _ _ _ (c .before .before .before .before .before .at .given .1) (c .before .before .before .before .before .before .before .block2 .ensures)) (c .before .before .before .head-end .ensures) (c .before .ending .ensures))
-    (λ c. let a = c .before .before .before .before .before .before .args in let m = frameAt (now (a .ws)) (a .k) in giving-nowhere (now (a .s)) (now (a .places)) m _ (c .before .before .before .before .function .ensures) (c .before .before .before .block .ensures) (no-block-at _ _ _ (c .enum-told .given .1) (c .before .before .block2 .ensures))))
+    (λ c. let a = c .before .before .before .before .before .before .before .before .before .before .before .args in let m = frameAt (now (a .ws)) (a .k) in giving-at (now (a .s)) (now (a .places)) m (c .before .before .before .before .before .before .before .before .before .function .ensures) (c .before .before .before .before .before .before .before .before .block .ensures) _ _ _ (c .before .ending .result) (block-at _ _ _ (c .before .before .before .before .before .at .given .1) (c .before .before .before .before .before .before .before .block2 .ensures)) (c .before .before .before .head-end .ensures) (c .before .ending .ensures))
+    (λ c. let a = c .before .before .before .before .before .before .args in let m = frameAt (now (a .ws)) (a .k) in giving-nowhere (now (a .s)) (now (a .places)) m (c .before .before .before .before .function .ensures) (c .before .before .before .block .ensures) _ (no-block-at _ _ _ (c .enum-told .given .1) (c .before .before .block2 .ensures))))

@@ -11,5 +11,5 @@ ended-spec =
     (λ c κs. search needs)
     (λ c. search needs)
     (λ c. search needs)
-    (λ c. ends-given (c .before .before .before .before .returned .last .1 .1 .1 .1 .0) (c .before .before .before .before .returned .result) (c .before .before .before .before .returned .ensures) (c .before .r .given .1))
-    (λ c. ends-runs (c .before .before .before .returned .last .1 .1 .1 .1 .0) (c .before .before .before .returned .result) (c .before .before .before .returned .ensures) 0 (c .before .before .before .returned .last .1 .1 .1 .1 .0) (c .enum-told .given .1)))
+    (λ c. ends-given (c .before .before .before .before .returned .last .1 .1 .1 .1 .0) (c .before .before .before .before .returned .result) (c .before .before .before .before .returned .ensures) (c .before .r .given .1) (search needs))
+    (λ c. ends-runs _ (c .before .before .before .returned .result) (c .before .before .before .returned .ensures) (c .enum-told .given .1)))

@@ -22,10 +22,10 @@ promote-spec =
     (λ c. search needs)
     (λ c.
     let o = c .before .before .before .before .before .before .before .before .before .before .before .before .before .before .before in
-    promotes-made (o .oldest .result) (o .oldest .ensures .1) (not-false _ (c .before .before .before .before .before .before .before .before .before .before .before .before .before .if1 .left)) (c .before .before .before .before .before .before .before .before .before .before .before .thread-count .ensures) _ (c .before .before .before .before .before .before .before .child .result) (search needs)
+    promotes-made (o .oldest .result) (o .oldest .ensures .1) (not-false _ (c .before .before .before .before .before .before .before .before .before .before .before .before .before .if1 .left)) (c .before .before .before .before .before .before .before .before .before .before .before .thread-count .ensures) _ _ (c .before .before .before .before .before .before .before .child .result) (search needs)
     (c .before .before .before .before .before .before .before .child .ensures) _ (c .before .before .before .before .enum-told .given .1) (c .before .spawn .ensures))
     (λ c. search needs)
     (λ c.
     let o = c .before .before .before .before .before .before .before .before .before .before in
-    promotes-unmet (o .oldest .result) (o .oldest .ensures .1) (not-false _ (c .before .before .before .before .before .before .before .before .if1 .left)) (c .before .before .before .before .before .before .thread-count .ensures) _ (c .before .before .child .result) (search needs)
+    promotes-unmet (o .oldest .result) (o .oldest .ensures .1) (not-false _ (c .before .before .before .before .before .before .before .before .if1 .left)) (c .before .before .before .before .before .before .thread-count .ensures) _ _ (c .before .before .child .result) (search needs)
     (c .before .before .child .ensures) (c .match .keys2)))

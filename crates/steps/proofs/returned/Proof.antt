@@ -9,9 +9,9 @@ returned-spec =
     tie.close
     (tie.spec
     (λ c κs. search needs)
-    (λ c. brings-deep _ (c .before .frame-count .ensures) (c .if1 .taken))
+    (λ c. brings-deep (c .before .frame-count .ensures) _ (c .if1 .taken))
     (λ c κs. search needs)
     (λ c. search needs)
     (λ c κs. search needs)
     (λ c. search needs)
-    (λ c. brings-given _ (c .before .before .before .before .before .frame-count .ensures) (c .before .giving .result) (c .before .before .before .before .if1 .left) (omega (arith, c .before .before .before .thread-start .ensures)) (c .before .giving .ensures)))
+    (λ c. brings-given (c .before .before .before .before .before .frame-count .ensures) _ _ (c .before .giving .result) (c .before .before .before .before .if1 .left) (omega (arith, c .before .before .before .thread-start .ensures)) (c .before .giving .ensures)))

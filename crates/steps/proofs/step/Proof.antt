@@ -13,4 +13,4 @@ step-spec =
     (λ c. search needs)
     (λ c κs. search needs)
     (λ c. search needs)
-    (λ c. steps-applied (c .before .before .before .before .before .decide .result) _ _ _ (c .before .before .before .before .before .decide .ensures) (c .before .apply .ensures)))
+    (λ c. steps-applied (c .before .before .before .before .before .decide .result) _ _ _ _ (c .before .before .before .before .before .decide .ensures) (c .before .apply .ensures)))
