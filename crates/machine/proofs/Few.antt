@@ -103,14 +103,3 @@ few-returned (k ∷ K) a v̄ h e = none-some e
 pub few-ended : (P : Program) → Limits P → (t : Thread) (v̄ : List ℤ) → ended P t ≡ some v̄ → length v̄ ≤ 4
 unfolding ended
 few-ended P L t v̄ e = few-returned (t .older) (act P (t .newest)) v̄ (few-act P L (t .newest)) e
-
--- the first of eight values, where they are at most four
-pub first-four : (n : ℕ) (at : List ℤ) (d : ℤ) → length at ≡ 8 → length (take n at) ≤ 4
-    → take n (getD at 0 d ∷ getD at 1 d ∷ getD at 2 d ∷ getD at 3 d ∷ []) ≡ take n at
-first-four n [] d l h = absurd (omega arith)
-first-four n (v ∷ []) d l h = absurd (omega arith)
-first-four n (v ∷ w ∷ []) d l h = absurd (omega arith)
-first-four n (v ∷ w ∷ x ∷ []) d l h = absurd (omega arith)
-first-four n (v ∷ w ∷ x ∷ y ∷ v̄) d l h =
-    let few : n ≤ 4 = omega (arith, length-take n (v ∷ w ∷ x ∷ y ∷ v̄)) in
-    sym (take-append-le n (v ∷ w ∷ x ∷ y ∷ []) v̄ few)

@@ -1,2 +1,3 @@
 pub mod Few
 pub mod Lent
+pub mod Ended

@@ -1,78 +1,77 @@
-use borrow.Author.Needs.{needs}
+-- `machine::values` meets its contract.
+use mir.Facts.{toZ-ofZ}
+use borrow.Author.Needs.{needs, sfits-of}
+use Rattle.lend.proofs.Lending.{refused-pool, given-pool}
+use Rattle.machine.proofs.Lent.{values-refused}
+use Rattle.machine.proofs.Ended.{main-refused, values-open, values-given}
 use Rattle.machine.proofs.values.Statement.{statement}
 use Rattle.machine.proofs.values.Tie as tie
-use Rattle.machine.proofs.values.Reads as reads
-use Rattle.machine.proofs.values.Lts as lts
-use Rattle.lend.proofs.pool.Reads as pool-reads
-use Rattle.machine.proofs.without.Reads as without-reads
-use Rattle.steps.proofs.ended.Reads as ended-reads
 
--- src/lib.rt:99:11
 pool-requires : tie.Need-pool-requires
 pool-requires c κs = search needs
 
--- src/lib.rt:100:25
 enum-known-why : tie.Need-enum-known-why
 enum-known-why c = search needs
 
--- src/lib.rt:100:33
 without-requires : tie.Need-without-requires
 without-requires c κs = search needs
 
--- src/lib.rt:102:41
 enum-told : tie.Need-enum-told
 enum-told c = search needs
 
--- src/lib.rt:102:17
 ended-requires : tie.Need-ended-requires
-ended-requires c κs = ?
+ended-requires c κs =
+    let told = c .before in
+    let pool = told .before .before .pool in
+    (given-pool _ _ _ (pool .result) (pool .ensures) (told .enum-told .given .1) .long, search needs)
 
--- src/lib.rt:109:30
 array-copy-out-t18 : tie.Need-array-copy-out-t18
 array-copy-out-t18 c = search needs
 
--- src/lib.rt:109:37
 array-copy-out-t21 : tie.Need-array-copy-out-t21
 array-copy-out-t21 c = search needs
 
--- src/lib.rt:109:44
 array-copy-out-t24 : tie.Need-array-copy-out-t24
 array-copy-out-t24 c = search needs
 
--- src/lib.rt:109:51
 array-copy-out-t27 : tie.Need-array-copy-out-t27
 array-copy-out-t27 c = search needs
 
--- src/lib.rt:112:17
 without-requires-2 : tie.Need-without-requires-2
 without-requires-2 c κs = search needs
 
--- src/lib.rt:95:1
 returns : tie.Need-returns
-returns c = ?
+returns c =
+    let told = c .before .before in
+    let pool = told .before .before .pool in
+    main-refused (c .without .result) _ (c .without .ensures)
+    (values-refused _ _ (refused-pool _ _ _ (pool .result) (pool .ensures) _ (told .why .given .1)))
 
--- src/lib.rt:95:1
 returns-2 : tie.Need-returns-2
-returns-2 c = ?
+returns-2 c =
+    let fourth = c .t27 in
+    let third = c .before in
+    let second = third .before in
+    let first = second .before in
+    let test = first .before .before .before in
+    let ended = test .before in
+    let told = ended .before .before in
+    let pool = told .before .before .pool in
+    values-given _ _ _ (given-pool _ _ _ (pool .result) (pool .ensures) (told .enum-told .given .1)) (ended .ended .result)
+    (ended .ended .ensures) (test .if1 .taken) (toZ-ofZ (sfits-of (first .t18 .given))) (toZ-ofZ (sfits-of (second .t21 .given)))
+    (toZ-ofZ (sfits-of (third .t24 .given))) (toZ-ofZ (sfits-of (fourth .given)))
 
--- src/lib.rt:95:1
 returns-3 : tie.Need-returns-3
-returns-3 c = ?
+returns-3 c =
+    let test = c .before in
+    let ended = test .before in
+    let told = ended .before .before in
+    let pool = told .before .before .pool in
+    values-open _ _ _ (given-pool _ _ _ (pool .result) (pool .ensures) (told .enum-told .given .1)) (ended .ended .result)
+    (ended .ended .ensures) (c .without2 .result) (test .if1 .left) (c .without2 .ensures)
 
 pub values-spec : {M : Type 1} → statement M
 values-spec =
     tie.close
-    (tie.spec
-    pool-requires
-    enum-known-why
-    without-requires
-    enum-told
-    ended-requires
-    array-copy-out-t18
-    array-copy-out-t21
-    array-copy-out-t24
-    array-copy-out-t27
-    without-requires-2
-    returns
-    returns-2
-    returns-3)
+    (tie.spec pool-requires enum-known-why without-requires enum-told ended-requires
+    array-copy-out-t18 array-copy-out-t21 array-copy-out-t24 array-copy-out-t27 without-requires-2 returns returns-2 returns-3)
