@@ -1,5 +1,5 @@
 -- Main's values, written over the first of four words.
-use Prim.Native.Nat.{ℕ, zero, suc, _+_, _-_, _<_, _≤_}
+use Prim.Native.Nat.{ℕ, zero, suc, _+_, _-_, _<_, _≤_, min}
 use mathlib.Core.Path.{_≡_, refl, sym, ap, subst, _∙_}
 use mathlib.Core.Bool.{Bool, true, false, cond}
 use mathlib.Core.Option.{Option, some}
@@ -15,8 +15,9 @@ use Rattle.model.specs.Answers.{Answer}
 use Rattle.model.proofs.Facts.{ltb-true, ltb-false}
 use Rattle.machine.specs.declared.State.{State}
 use Rattle.machine.specs.declared.Main.{Main}
-use Rattle.machine.specs.Calls.{mainBy, mainOf}
-use Rattle.mezdaulk.specs.Coded.{given, counted, over, written, Values}
+use Rattle.machine.specs.Calls.{stateOf, IsMain}
+use Rattle.answers.specs.Coded.{given}
+use Rattle.host.specs.Exports.{counted, over, written, Values}
 
 -- what a call of `value_at` gives
 pub value-told : {u x y : ℤ} (b : Bool) → SFits w32 u → SFits w32 x → SFits w32 y
@@ -85,18 +86,16 @@ module _ (n : ℕ) (w₀ w₁ w₂ w₃ : ℤ) where
   put-over (a ∷ b ∷ c ∷ d ∷ []) ws m t = four-picked a b c d ws t ∙ sym (over-first n (a ∷ b ∷ c ∷ d ∷ []) ws)
   put-over (a ∷ b ∷ c ∷ d ∷ e ∷ f) ws m t = absurd (omega arith)
 
-module _ (n : ℕ) (f ws : List ℤ) {w₀ w₁ w₂ w₃ : ℤ} (m : length f ≡ 4) (t : Told n f ws w₀ w₁ w₂ w₃) where
-  puts : (r : ℕ) → r ≡ given (length (take n f)) → Values (Answer.given (some (take n f))) ws r (put ws w₀ w₁ w₂ w₃)
-  unfolding counted written
-  puts r h = record { number = h; words = put-over n w₀ w₁ w₂ w₃ f ws m t }
-
-  pub puts-few : n < 4 → Values (Answer.given (some (take n f))) ws (4294967296 + n) (put ws w₀ w₁ w₂ w₃)
-  puts-few h = let l : n ≡ length (take n f) = omega (arith, length-take n f) in puts (4294967296 + n) (ap given l)
-
-  pub puts-four : 4 ≤ n → Values (Answer.given (some (take n f))) ws 4294967300 (put ws w₀ w₁ w₂ w₃)
-  puts-four h = let l : 4 ≡ length (take n f) = omega (arith, length-take n f) in puts 4294967300 (ap given l)
+pub puts : (n : ℕ) (f ws : List ℤ) {w₀ w₁ w₂ w₃ : ℤ} (v r : ℕ) → length f ≡ 4 → Told n f ws w₀ w₁ w₂ w₃ → v ≡ min n 4 → r ≡ given v
+    → Values (Answer.given (some (take n f))) ws r (put ws w₀ w₁ w₂ w₃)
+unfolding counted written
+puts n f ws {w₀} {w₁} {w₂} {w₃} v r m t e h =
+    let l : v ≡ length (take n f) = e ∙ sym (length-take n f ∙ ap (min n) m) in
+    record { number = h ∙ ap given l; words = put-over n w₀ w₁ w₂ w₃ f ws m t }
 
 -- main's values by their state
-pub values-coded : {a : Answer (Option (List ℤ))} (m : Main) (x : State) {n : ℕ} {ws ws′ : List ℤ} → mainOf m ≡ a → m .state ≡ x → Values (mainBy x m) ws n ws′ → Values a ws n ws′
-values-coded m x {n} {ws} {ws′} e t h =
-    subst (λ (b : Answer (Option (List ℤ))). Values b ws n ws′) (ap (λ (z : State). mainBy z m) (sym t) ∙ e) h
+pub values-told : {a : Answer (Option (List ℤ))} (m : Main) (x : State) {n : ℕ} {ws ws′ : List ℤ} → IsMain m a → m .state ≡ x
+    → Values (stateOf x (take (m .count) (m .values))) ws n ws′ → Values a ws n ws′
+values-told m x {n} {ws} {ws′} e t h =
+    subst (λ (b : Answer (Option (List ℤ))). Values b ws n ws′)
+    (ap (λ (z : State). stateOf z (take (m .count) (m .values))) (sym t) ∙ e .answer) h

@@ -1,9 +1,9 @@
 // The runner: a table, then choices, from standard input; what the check says, a line for each choice, and main's values to
 // standard output.
+use answers::Answer;
 use frames::Pool;
 use libc::STDIN_FILENO;
 use steps::Made;
-use verifier::Checked;
 
 mod text;
 
@@ -185,24 +185,9 @@ fn checked(table: &[u8; 16384], size: usize, out: &mut [u8; 65536]) -> usize {
     let t = text::front(table, size);
     let mut places = [0u16; 656];
     match verifier::check_placed(t, &mut places) {
-        Checked::Accepted => accepted(t, &places, out),
-        Checked::Size => {
-            let n = text::refused(out, 0, 1);
-            text::line(out, n)
-        }
-        Checked::Version => {
-            let n = text::refused(out, 0, 2);
-            text::line(out, n)
-        }
-        Checked::Form(place) => {
-            let n = text::refused(out, 0, 3);
-            let n = text::part(out, n, place as u64);
-            text::line(out, n)
-        }
-        Checked::Fault(number, function, block) => {
-            let n = text::refused(out, 0, number);
-            let n = text::part(out, n, function as u64);
-            let n = text::part(out, n, block as u64);
+        Answer::Given => accepted(t, &places, out),
+        Answer::Refused(why) => {
+            let n = text::refusal(out, 0, why);
             text::line(out, n)
         }
     }

@@ -1,5 +1,8 @@
 // Text, by way of a buffer that is written out where it is full. Each function is given how many bytes wait in the buffer, and
 // gives how many do after it.
+use answers::No;
+use answers::Refusal;
+use answers::Rule;
 use eval::Values;
 use libc::STDOUT_FILENO;
 
@@ -86,24 +89,56 @@ pub fn kind(out: &mut [u8; 65536], n: usize, kind: u8) -> usize {
 
 // The name of a rule.
 pub fn rule(out: &mut [u8; 65536], n: usize, rule: u8) -> usize {
-    match rule {
-        1 => bytes(out, n, b" stmt"),
-        2 => bytes(out, n, b" goto"),
-        3 => bytes(out, n, b" then"),
-        4 => bytes(out, n, b" else"),
-        5 => bytes(out, n, b" call"),
-        6 => bytes(out, n, b" return"),
-        7 => bytes(out, n, b" spork"),
-        8 => bytes(out, n, b" unpr"),
-        9 => bytes(out, n, b" prom"),
-        _ => bytes(out, n, b" promote"),
+    if rule == Rule::STMT {
+        return bytes(out, n, b" stmt");
     }
+    if rule == Rule::GOTO {
+        return bytes(out, n, b" goto");
+    }
+    if rule == Rule::THEN {
+        return bytes(out, n, b" then");
+    }
+    if rule == Rule::ELSE {
+        return bytes(out, n, b" else");
+    }
+    if rule == Rule::CALL {
+        return bytes(out, n, b" call");
+    }
+    if rule == Rule::RETURN {
+        return bytes(out, n, b" return");
+    }
+    if rule == Rule::SPORK {
+        return bytes(out, n, b" spork");
+    }
+    if rule == Rule::UNPR {
+        return bytes(out, n, b" unpr");
+    }
+    if rule == Rule::PROM {
+        return bytes(out, n, b" prom");
+    }
+    bytes(out, n, b" promote")
 }
 
 // A refusal's number, which a place may follow.
 pub fn refused(out: &mut [u8; 65536], n: usize, number: u8) -> usize {
     let k = bytes(out, n, b"refused");
     part(out, k, number as u64)
+}
+
+// A refusal, with its place where it has one: the byte's offset, or the function and the block.
+pub fn refusal(out: &mut [u8; 65536], n: usize, why: Refusal) -> usize {
+    match why {
+        Refusal::Plain(number) => refused(out, n, number),
+        Refusal::Byte(at) => {
+            let k = refused(out, n, No::FORM);
+            part(out, k, at as u64)
+        }
+        Refusal::Fault(number, function, block) => {
+            let k = refused(out, n, number);
+            let k = part(out, k, function as u64);
+            part(out, k, block as u64)
+        }
+    }
 }
 
 // The end of a line.

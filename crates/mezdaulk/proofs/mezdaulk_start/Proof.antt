@@ -1,29 +1,22 @@
-use mathlib.Core.Path.{refl}
+-- `mezdaulk_start` meets its contract.
+use Rattle.mezdaulk.proofs.Codes.{gives}
+use Rattle.answers.specs.Answers.{answerOf}
+use Rattle.host.specs.Exports as Exports
 use borrow.Author.Needs.{needs}
-use Rattle.mezdaulk.specs.Coded.{done}
-use Rattle.mezdaulk.proofs.Codes.{start-coded}
 use Rattle.mezdaulk.proofs.mezdaulk_start.Statement.{statement}
 use Rattle.mezdaulk.proofs.mezdaulk_start.Tie as tie
 
+start-requires : tie.Need-start-requires
+start-requires c κs = search needs
+
+done-requires : tie.Need-done-requires
+done-requires c κs = search needs
+
+same-length : tie.Need-same-length
+same-length c = search needs
+
+returns : tie.Need-returns
+returns c = gives Exports.done _ (c .before .before .start .ensures) (c .done .ensures)
+
 pub mezdaulk-start-spec : {M : Type 1} → statement M
-unfolding done
-mezdaulk-start-spec =
-    tie.close
-    (tie.spec
-    (λ c κs. search needs)
-    (λ c. search needs)
-    (λ c. search needs)
-    (λ c. search needs)
-    (λ c. search needs)
-    (λ c κs. search needs)
-    (λ c. search needs)
-    (λ c. search needs)
-    (λ c. start-coded (c .before .before .before .start .ensures) (c .enum-told .given .1) refl)
-    (λ c. search needs)
-    (λ c. start-coded (c .before .before .before .start .ensures) (c .enum-told2 .given .1) refl)
-    (λ c. search needs)
-    (λ c. start-coded (c .before .before .before .start .ensures) (c .enum-told3 .given .1) refl)
-    (λ c. search needs)
-    (λ c. start-coded (c .before .before .before .before .before .start .ensures) (c .before .before .at .given .1) (c .bad-byte .ensures))
-    (λ c. search needs)
-    (λ c. start-coded (c .before .before .before .start .ensures) (c .enum-told4 .given .1) refl))
+mezdaulk-start-spec = tie.close (tie.spec start-requires done-requires same-length returns)

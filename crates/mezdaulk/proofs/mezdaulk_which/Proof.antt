@@ -1,31 +1,60 @@
-use mathlib.Core.Path.{refl}
+-- `mezdaulk_which` meets its contract.
 use native.Mathlib.Omega.{arith}
-use borrow.Author.Needs.{needs}
-use Rattle.mezdaulk.specs.Coded.{stepperOf}
-use Rattle.mezdaulk.proofs.Codes.{which-coded}
+use Rattle.mezdaulk.proofs.Codes.{told, finds}
 use Rattle.mezdaulk.proofs.Threads.{which-there}
+use Rattle.machine.specs.Calls.{steppingOf}
+use Rattle.host.specs.Exports.{stepperOf}
+use borrow.Author.Needs.{needs}
 use Rattle.mezdaulk.proofs.mezdaulk_which.Statement.{statement}
 use Rattle.mezdaulk.proofs.mezdaulk_which.Tie as tie
 
-pub mezdaulk-which-spec : {M : Type 1} → statement M
+which-requires : tie.Need-which-requires
+which-requires c κs = search needs
+
+enum-known-i : tie.Need-enum-known-i
+enum-known-i c = search needs
+
+cast-value : tie.Need-cast-value
 unfolding stepperOf
+cast-value c =
+    let which = c .before .before .before .which in
+    omega (arith, which-there _ _ _ _ (which .ensures) (c .before .i .given .1))
+
+value-requires : tie.Need-value-requires
+value-requires c κs = search needs
+
+enum-told : tie.Need-enum-told
+enum-told c = search needs
+
+value-requires-2 : tie.Need-value-requires-2
+value-requires-2 c κs = search needs
+
+enum-known-why : tie.Need-enum-known-why
+enum-known-why c = search needs
+
+code-requires : tie.Need-code-requires
+code-requires c κs = search needs
+
+returns : tie.Need-returns
+unfolding stepperOf
+returns c =
+    let which = c .before .before .before .before .which in
+    finds (which .result) (which .ensures) (told stepperOf steppingOf (c .before .before .i .given .1) (c .value .ensures))
+
+returns-2 : tie.Need-returns-2
+unfolding stepperOf
+returns-2 c =
+    let which = c .before .before .before .which in
+    finds (which .result) (which .ensures) (told stepperOf steppingOf (c .before .enum-told .given .1) (c .value2 .ensures))
+
+returns-3 : tie.Need-returns-3
+unfolding stepperOf
+returns-3 c =
+    let which = c .before .before .before .before .which in
+    finds (which .result) (which .ensures) (told stepperOf steppingOf (c .before .before .why .given .1) (c .code .ensures))
+
+pub mezdaulk-which-spec : {M : Type 1} → statement M
 mezdaulk-which-spec =
     tie.close
-    (tie.spec
-    (λ c κs. search needs)
-    (λ c. search needs)
-    (λ c. record { fits = omega (arith, which-there _ _ _ _ (c .before .before .before .which .ensures) (c .before .i .given .1)) })
-    (λ c. search needs)
-    (λ c. search needs)
-    (λ c. search needs)
-    (λ c. search needs)
-    (λ c. search needs)
-    (λ c κs. search needs)
-    (λ c. search needs)
-    (λ c. search needs)
-    (λ c. which-coded (c .before .before .before .which .ensures) (c .before .i .given .1) refl)
-    (λ c. which-coded (c .before .before .which .ensures) (c .enum-told .given .1) refl)
-    (λ c. which-coded (c .before .before .which .ensures) (c .enum-told2 .given .1) refl)
-    (λ c. which-coded (c .before .before .which .ensures) (c .enum-told3 .given .1) refl)
-    (λ c. which-coded (c .before .before .before .before .which .ensures) (c .before .before .at .given .1) (c .bad-byte .ensures))
-    (λ c. which-coded (c .before .before .before .which .ensures) (c .before .number .given .1) refl))
+    (tie.spec which-requires enum-known-i cast-value value-requires enum-told value-requires-2 enum-known-why code-requires
+    returns returns-2 returns-3)
