@@ -75,7 +75,8 @@ module _ (k : Pool.Frame) where
     pub record Read (out : List ℤ) (p i : ℕ) : Type 0 where
       pub within : i ≤ n
       pub few : n ≤ 8
-      pub room : length out ≡ 8
+      pub long : length out₀ ≡ 8
+      pub room : length out ≡ length out₀
       pub is : lookAll k (run s p₀ n) ≡ ahead (take i out) (lookAll k (run s p (n - i)))
       pub front : boundPart k (run s p₀ n) ≡ take i out ++ boundPart k (run s p (n - i))
       pub back : drop i out ≡ drop i out₀
@@ -83,7 +84,7 @@ module _ (k : Pool.Frame) where
     pub read-starts : n ≤ 8 → length out₀ ≡ 8 → Read out₀ p₀ 0
     read-starts h l =
         let e : n - 0 ≡ n = omega arith in
-        record { within = omega arith; few = h; room = l; is = rw e (ahead-nil (lookAll k (run s p₀ n))); front = rw e; back = refl }
+        record { within = omega arith; few = h; long = l; room = refl; is = rw e (ahead-nil (lookAll k (run s p₀ n))); front = rw e; back = refl }
 
     pub read-goes : (out : List ℤ) (p i : ℕ) (v : Value) {x q : ℕ} → Read out p i → i < n → x ≡ byteAt s p → q ≡ past p 1 → v ≡ valueAs (look k x) → not (v .ok) ≡ false → SFits w32 (v .value)
         → Read (set out i (toZ w32 (ofZ w32 (v .value)))) q (i + 1)
@@ -91,11 +92,12 @@ module _ (k : Pool.Frame) where
         let some-v : look k (byteAt s p) ≡ some (v .value) = ap (look k) (sym e₁) ∙ value-some v _ e₃ (not-false (v .ok) t) in
         let rest : List ℕ = run s (past p 1) (n - (i + 1)) in
         let first : take (i + 1) (set out i (toZ w32 (ofZ w32 (v .value)))) ≡ take i out ++ (v .value ∷ []) =
-        rw (toZ-ofZ f, add-one i) (take-suc-set out i (v .value) (omega (arith, h .few, h .room)))
+        rw (toZ-ofZ f, add-one i) (take-suc-set out i (v .value) (omega (arith, h .few, h .long, h .room)))
         in
         record {
           within = omega arith;
           few = h .few;
+          long = h .long;
           room = simp length-set (h .room);
           is =
               h .is
@@ -125,7 +127,7 @@ module _ (k : Pool.Frame) where
                 (h .is
                 ∙ ap (λ (x̄ : List ℕ). ahead (take i out) (lookAll k x̄)) (run-goes s p n i l)
                 ∙ look-none (byteAt s p) rest (take i out) none-v),
-            filled-is k (run s p₀ n) out₀ out i (omega (arith, h .few, h .room))
+            filled-is k (run s p₀ n) out₀ out i (omega (arith, h .few, h .long, h .room))
                 (h .front
                 ∙ ap (λ (x̄ : List ℕ). take i out ++ boundPart k x̄) (run-goes s p n i l)
                 ∙ ap (λ (v̄ : List ℤ). take i out ++ v̄) (bound-none k (byteAt s p) rest none-v)
@@ -141,7 +143,7 @@ module _ (k : Pool.Frame) where
                 (h .is
                 ∙ ap (λ (x̄ : List ℕ). ahead (take i out) (lookAll k x̄)) (run-ends s p n i l)
                 ∙ ap some (append-nil (take i out) ∙ ap (λ (j : ℕ). take j out) e)),
-            filled-is k (run s p₀ n) out₀ out i (omega (arith, h .few, h .room))
+            filled-is k (run s p₀ n) out₀ out i (omega (arith, h .few, h .long, h .room))
                 (h .front ∙ ap (λ (x̄ : List ℕ). take i out ++ boundPart k x̄) (run-ends s p n i l) ∙ append-nil (take i out))
                 (h .back),
           )
