@@ -84,9 +84,18 @@ module _ (k : Pool.Frame) where
     pub read-starts : n ≤ 8 → length out₀ ≡ 8 → Read out₀ p₀ 0
     read-starts h l =
         let e : n - 0 ≡ n = omega arith in
-        record { within = omega arith; few = h; long = l; room = refl; is = rw e (ahead-nil (lookAll k (run s p₀ n))); front = rw e; back = refl }
+        record {
+          within = omega arith;
+          few = h;
+          long = l;
+          room = refl;
+          is = rw e (ahead-nil (lookAll k (run s p₀ n)));
+          front = rw e;
+          back = refl;
+        }
 
-    pub read-goes : (out : List ℤ) (p i : ℕ) (v : Value) {x q : ℕ} → Read out p i → i < n → x ≡ byteAt s p → q ≡ past p 1 → v ≡ valueAs (look k x) → not (v .ok) ≡ false → SFits w32 (v .value)
+    pub read-goes : (out : List ℤ) (p i : ℕ) (v : Value) {x q : ℕ} → Read out p i → i < n → x ≡ byteAt s p → q ≡ past p 1
+        → v ≡ valueAs (look k x) → not (v .ok) ≡ false → SFits w32 (v .value)
         → Read (set out i (toZ w32 (ofZ w32 (v .value)))) q (i + 1)
     read-goes out p i v h l e₁ e₂ e₃ t f =
         let some-v : look k (byteAt s p) ≡ some (v .value) = ap (look k) (sym e₁) ∙ value-some v _ e₃ (not-false (v .ok) t) in
@@ -155,7 +164,8 @@ arguments-are s at e d = rw (e, d)
 
 module _ (k : Pool.Frame) (s : List ℕ) (at : ℕ) {p₀ n : ℕ} {out₀ : List ℤ} (out : List ℤ) (p i : ℕ) (e : p₀ ≡ past at 1)
     (d : n ≡ countAt s at) (h : Read k s p₀ n out₀ out p i) where
-  pub arguments-unbound : {x : ℕ} (v : Value) → i < n → x ≡ byteAt s p → v ≡ valueAs (look k x) → not (v .ok) ≡ true → Looks k s at out₀ false out
+  pub arguments-unbound : {x : ℕ} (v : Value) → i < n → x ≡ byteAt s p → v ≡ valueAs (look k x) → not (v .ok) ≡ true
+      → Looks k s at out₀ false out
   arguments-unbound v l e₁ e₂ t =
       let (q, r) = read-stops k s p₀ n out₀ out p i h v l e₁ e₂ t in
       let a = arguments-are s at e d in
