@@ -54,7 +54,7 @@ module _ (s : List ℕ) (p₀ n : ℕ) (v̄ ws₀ : List ℤ) (k : ℕ) where
           let z : bind (u .frame) x (toZ w32 (ofZ w32 (getD v̄ i (pos 0)))) ≡ bind (u .frame) (byteAt s p) (getD (take n v̄) i (pos 0)) = rw (e₁, w) in
           record {
             frame = bind (u .frame) (byteAt s p) (getD (take n v̄) i (pos 0));
-            became = subst (λ (r : Frame). Became ws₀ k r ws′) z (became-then (h .room) (u .became) (b y (u .frame) o));
+            became = subst (λ (r : Frame). Became ws₀ k r ws′) z (became-then (h .room) (u .became) (b .bound y (u .frame) o));
             binding = binding-goes s p₀ n (take n v̄) m (u .frame) p i (u .binding) l (omega (arith, length-take n v̄, h .few)) e₂;
           }
 

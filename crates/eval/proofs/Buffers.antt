@@ -39,7 +39,8 @@ module _ (k : Pool.Frame) where
       rest v none d q = cc
       rest v (some w̄) d q = rw (h w̄ d) (cc)
 
-      first : (o : Option ℤ) → Frames._>>=_ o (λ v. Frames._>>=_ (lookAll k x̄) (λ w̄. some (v ∷ w̄))) ≡ some v̄ → andOn o (boundPart k x̄) ≡ v̄
+      first : (o : Option ℤ) → Frames._>>=_ o (λ v. Frames._>>=_ (lookAll k x̄) (λ w̄. some (v ∷ w̄))) ≡ some v̄
+          → andOn o (boundPart k x̄) ≡ v̄
       first none q = cc
       first (some v) q = rest v (lookAll k x̄) refl q
 

@@ -204,14 +204,18 @@ module _ (s : List ℕ) (at : ℕ) where
         go (suc n) z = refl
 
     -- an expression: an atom unbound; one atom; two
-    pub eval-unbound : {kind f : ℕ} (m : Value) → kind ≡ byteAt s at → f ≡ past at 1 → m ≡ valueAs (evalAtom k (atomAt s f)) → not (m .ok) ≡ true
+    pub eval-unbound : {kind f : ℕ} (m : Value) → kind ≡ byteAt s at → f ≡ past at 1 → m ≡ valueAs (evalAtom k (atomAt s f))
+        → not (m .ok) ≡ true
         → Evaluates k s at (record { ok = false; value = pos 0; end = 0 })
     unfolding expressionAt
     eval-unbound {kind} {f} m e₁ e₂ e₃ h =
         let z : evalAtom k (atomAt s (past at 1)) ≡ none = ap (λ (i : ℕ). evalAtom k (atomAt s i)) (sym e₂) ∙ value-none m _ e₃ (not-true (m .ok) h) in
         evaluates-none _ (eval-first k (byteAt s at) _ _ z)
 
-    pub eval-unary : {kind f a o : ℕ} {r : ℤ} (m : Value) (w : ℤ) → SFits w32 r → SFits w32 (m .value) → kind ≡ byteAt s at → f ≡ past at 1 → m ≡ valueAs (evalAtom k (atomAt s f)) → a ≡ atomEnd s f → not (m .ok) ≡ false → o ≡ operands kind → (o ≡ 2 → ⊥) → r ≡ applied kind (toZ w32 (ofZ w32 (m .value))) w → Evaluates k s at (record { ok = true; value = toZ w32 (ofZ w32 r); end = a })
+    pub eval-unary : {kind f a o : ℕ} {r : ℤ} (m : Value) (w : ℤ) → SFits w32 r → SFits w32 (m .value) → kind ≡ byteAt s at
+        → f ≡ past at 1 → m ≡ valueAs (evalAtom k (atomAt s f)) → a ≡ atomEnd s f → not (m .ok) ≡ false → o ≡ operands kind
+        → (o ≡ 2 → ⊥) → r ≡ applied kind (toZ w32 (ofZ w32 (m .value))) w
+        → Evaluates k s at (record { ok = true; value = toZ w32 (ofZ w32 r); end = a })
     unfolding expressionAt
     eval-unary {kind} {f} {a} {o} {r} m w g i e₁ e₂ e₃ e₆ h e₄ d e₅ =
         let z : evalAtom k (atomAt s (past at 1)) ≡ some (m .value) = ap (λ (i : ℕ). evalAtom k (atomAt s i)) (sym e₂) ∙ value-some m _ e₃ (not-false (m .ok) h) in
@@ -221,7 +225,9 @@ module _ (s : List ℕ) (at : ℕ) where
         ∙ sym (eval-one k (byteAt s at) _ _ (m .value) w q z))
         (end-one e₂ e₆ e₁ e₄ d)
 
-    pub eval-half-bound : {kind f a o : ℕ} (m n : Value) → kind ≡ byteAt s at → f ≡ past at 1 → m ≡ valueAs (evalAtom k (atomAt s f)) → not (m .ok) ≡ false → o ≡ operands kind → o ≡ 2 → a ≡ atomEnd s f → n ≡ valueAs (evalAtom k (atomAt s a)) → not (n .ok) ≡ true
+    pub eval-half-bound : {kind f a o : ℕ} (m n : Value) → kind ≡ byteAt s at → f ≡ past at 1
+        → m ≡ valueAs (evalAtom k (atomAt s f)) → not (m .ok) ≡ false → o ≡ operands kind → o ≡ 2 → a ≡ atomEnd s f
+        → n ≡ valueAs (evalAtom k (atomAt s a)) → not (n .ok) ≡ true
         → Evaluates k s at (record { ok = false; value = pos 0; end = 0 })
     unfolding expressionAt secondAt
     eval-half-bound {kind} {f} {a} {o} m n e₁ e₂ e₃ h e₄ d e₅ e₆ h′ =
@@ -230,7 +236,11 @@ module _ (s : List ℕ) (at : ℕ) where
         let q : operands (byteAt s at) ≡ 2 = ap operands (sym e₁) ∙ sym e₄ ∙ d in
         evaluates-none _ (eval-second k (byteAt s at) _ _ (m .value) q z y)
 
-    pub eval-binary : {kind f a o b : ℕ} {r : ℤ} (m n : Value) → SFits w32 r → SFits w32 (m .value) → SFits w32 (n .value) → kind ≡ byteAt s at → f ≡ past at 1 → m ≡ valueAs (evalAtom k (atomAt s f)) → not (m .ok) ≡ false → o ≡ operands kind → o ≡ 2 → a ≡ atomEnd s f → n ≡ valueAs (evalAtom k (atomAt s a)) → b ≡ atomEnd s a → not (n .ok) ≡ false → r ≡ applied kind (toZ w32 (ofZ w32 (m .value))) (toZ w32 (ofZ w32 (n .value))) → Evaluates k s at (record { ok = true; value = toZ w32 (ofZ w32 r); end = b })
+    pub eval-binary : {kind f a o b : ℕ} {r : ℤ} (m n : Value) → SFits w32 r → SFits w32 (m .value) → SFits w32 (n .value)
+        → kind ≡ byteAt s at → f ≡ past at 1 → m ≡ valueAs (evalAtom k (atomAt s f)) → not (m .ok) ≡ false → o ≡ operands kind
+        → o ≡ 2 → a ≡ atomEnd s f → n ≡ valueAs (evalAtom k (atomAt s a)) → b ≡ atomEnd s a → not (n .ok) ≡ false
+        → r ≡ applied kind (toZ w32 (ofZ w32 (m .value))) (toZ w32 (ofZ w32 (n .value)))
+        → Evaluates k s at (record { ok = true; value = toZ w32 (ofZ w32 r); end = b })
     unfolding expressionAt secondAt
     eval-binary {kind} {f} {a} {o} {b} {r} m n g i j e₁ e₂ e₃ h e₄ d e₅ e₆ e₈ h′ e₇ =
         let z : evalAtom k (atomAt s (past at 1)) ≡ some (m .value) = ap (λ (i : ℕ). evalAtom k (atomAt s i)) (sym e₂) ∙ value-some m _ e₃ (not-false (m .ok) h) in

@@ -75,7 +75,8 @@ module _ (k : Pool.Frame) where
     pub record Read (out : List ℤ) (p i : ℕ) : Type 0 where
       pub within : i ≤ n
       pub few : n ≤ 8
-      pub room : length out ≡ 8
+      pub long : length out₀ ≡ 8
+      pub room : length out ≡ length out₀
       pub is : lookAll k (run s p₀ n) ≡ ahead (take i out) (lookAll k (run s p (n - i)))
       pub front : boundPart k (run s p₀ n) ≡ take i out ++ boundPart k (run s p (n - i))
       pub back : drop i out ≡ drop i out₀
@@ -83,19 +84,29 @@ module _ (k : Pool.Frame) where
     pub read-starts : n ≤ 8 → length out₀ ≡ 8 → Read out₀ p₀ 0
     read-starts h l =
         let e : n - 0 ≡ n = omega arith in
-        record { within = omega arith; few = h; room = l; is = rw e (ahead-nil (lookAll k (run s p₀ n))); front = rw e; back = refl }
+        record {
+          within = omega arith;
+          few = h;
+          long = l;
+          room = refl;
+          is = rw e (ahead-nil (lookAll k (run s p₀ n)));
+          front = rw e;
+          back = refl;
+        }
 
-    pub read-goes : (out : List ℤ) (p i : ℕ) (v : Value) {x q : ℕ} → Read out p i → i < n → x ≡ byteAt s p → q ≡ past p 1 → v ≡ valueAs (look k x) → not (v .ok) ≡ false → SFits w32 (v .value)
+    pub read-goes : (out : List ℤ) (p i : ℕ) (v : Value) {x q : ℕ} → Read out p i → i < n → x ≡ byteAt s p → q ≡ past p 1
+        → v ≡ valueAs (look k x) → not (v .ok) ≡ false → SFits w32 (v .value)
         → Read (set out i (toZ w32 (ofZ w32 (v .value)))) q (i + 1)
     read-goes out p i v h l e₁ e₂ e₃ t f =
         let some-v : look k (byteAt s p) ≡ some (v .value) = ap (look k) (sym e₁) ∙ value-some v _ e₃ (not-false (v .ok) t) in
         let rest : List ℕ = run s (past p 1) (n - (i + 1)) in
         let first : take (i + 1) (set out i (toZ w32 (ofZ w32 (v .value)))) ≡ take i out ++ (v .value ∷ []) =
-        rw (toZ-ofZ f, add-one i) (take-suc-set out i (v .value) (omega (arith, h .few, h .room)))
+        rw (toZ-ofZ f, add-one i) (take-suc-set out i (v .value) (omega (arith, h .few, h .long, h .room)))
         in
         record {
           within = omega arith;
           few = h .few;
+          long = h .long;
           room = simp length-set (h .room);
           is =
               h .is
@@ -125,7 +136,7 @@ module _ (k : Pool.Frame) where
                 (h .is
                 ∙ ap (λ (x̄ : List ℕ). ahead (take i out) (lookAll k x̄)) (run-goes s p n i l)
                 ∙ look-none (byteAt s p) rest (take i out) none-v),
-            filled-is k (run s p₀ n) out₀ out i (omega (arith, h .few, h .room))
+            filled-is k (run s p₀ n) out₀ out i (omega (arith, h .few, h .long, h .room))
                 (h .front
                 ∙ ap (λ (x̄ : List ℕ). take i out ++ boundPart k x̄) (run-goes s p n i l)
                 ∙ ap (λ (v̄ : List ℤ). take i out ++ v̄) (bound-none k (byteAt s p) rest none-v)
@@ -141,7 +152,7 @@ module _ (k : Pool.Frame) where
                 (h .is
                 ∙ ap (λ (x̄ : List ℕ). ahead (take i out) (lookAll k x̄)) (run-ends s p n i l)
                 ∙ ap some (append-nil (take i out) ∙ ap (λ (j : ℕ). take j out) e)),
-            filled-is k (run s p₀ n) out₀ out i (omega (arith, h .few, h .room))
+            filled-is k (run s p₀ n) out₀ out i (omega (arith, h .few, h .long, h .room))
                 (h .front ∙ ap (λ (x̄ : List ℕ). take i out ++ boundPart k x̄) (run-ends s p n i l) ∙ append-nil (take i out))
                 (h .back),
           )
@@ -153,7 +164,8 @@ arguments-are s at e d = rw (e, d)
 
 module _ (k : Pool.Frame) (s : List ℕ) (at : ℕ) {p₀ n : ℕ} {out₀ : List ℤ} (out : List ℤ) (p i : ℕ) (e : p₀ ≡ past at 1)
     (d : n ≡ countAt s at) (h : Read k s p₀ n out₀ out p i) where
-  pub arguments-unbound : {x : ℕ} (v : Value) → i < n → x ≡ byteAt s p → v ≡ valueAs (look k x) → not (v .ok) ≡ true → Looks k s at out₀ false out
+  pub arguments-unbound : {x : ℕ} (v : Value) → i < n → x ≡ byteAt s p → v ≡ valueAs (look k x) → not (v .ok) ≡ true
+      → Looks k s at out₀ false out
   arguments-unbound v l e₁ e₂ t =
       let (q, r) = read-stops k s p₀ n out₀ out p i h v l e₁ e₂ t in
       let a = arguments-are s at e d in

@@ -1,5 +1,5 @@
 -- What the code's answers stand for, in the model's terms.
-use Prim.Native.Nat.{ℕ, zero, suc, _<_}
+use Prim.Native.Nat.{ℕ, zero, suc, _<_, _≤_}
 use mathlib.Core.Bool.{Bool, true, false}
 use mathlib.Core.Path.{_≡_}
 use mathlib.Core.Option.{Option, none, some}
@@ -79,10 +79,12 @@ applied (suc zero) m n = Values.minus m
 applied (suc (suc zero)) m n = Values.plus m n
 applied (suc (suc (suc kind))) m n = Values.less m n
 
--- the frame at k has a temporary bound, and all of an argument list, each to its value of a buffer
-abbrev pub Binds : List ℤ → ℕ → ℕ → ℤ → List ℤ → Type 0
-Binds ws k x v ws′ = x < temporaries → Bound ws k x v ws′
+-- the frame at k has a temporary bound; what is no temporary changes nothing
+pub record Binds (ws : List ℤ) (k x : ℕ) (v : ℤ) (ws′ : List ℤ) : Type 0 where
+  pub bound : x < temporaries → Bound ws k x v ws′
+  pub kept : temporaries ≤ x → ws′ ≡ ws
 
+-- it has all of an argument list bound, each to its value of a buffer
 abbrev pub BindsAll : List ℕ → ℕ → List ℤ → ℕ → List ℤ → List ℤ → Type 0
 BindsAll s at ws k v̄ ws′ =
     (m : Frame) → FrameHeld ws k m → Each (λ x. x < temporaries) (argumentsAt s at) →

@@ -202,7 +202,8 @@ module _ (s places : List ℕ) (m : Frame) {f b : ℕ} (h : f ≡ m .function) (
         left = λ P p. rw (block-none s places m h g P p d) (filled-none m out);
       }
 
-  pub giving-at : (out₀ out : List ℤ) (at : ℕ) (r : Ended) {i : ℕ} → FindsBlock places f b (At at) → i ≡ headEnd s at → Ending s m i out₀ r out
+  pub giving-at : (out₀ out : List ℤ) (at : ℕ) (r : Ended) {i : ℕ} → FindsBlock places f b (At at) → i ≡ headEnd s at
+      → Ending s m i out₀ r out
       → Giving s places m out₀ r out
   unfolding act acts nextOf
   giving-at out₀ out at r {i} d e k =
@@ -239,7 +240,8 @@ module _ (P : Program) (m : Frame) (v̄ : List ℤ) where
   unfolding act acts nextOf coming returned nextIn
   act-gives e = at (blockOf P m (m .block)) e
     where
-      next : (B : Block) (o : Option Statement) → returned [] (coming P m B o) ≡ some v̄ → lookAll m (returnsOf m (transferBy B o)) ≡ some v̄
+      next : (B : Block) (o : Option Statement) → returned [] (coming P m B o) ≡ some v̄
+          → lookAll m (returnsOf m (transferBy B o)) ≡ some v̄
       next B none q = transfer-gives (B .transfer) q
       next B (some t) q = cc (stmt-runs m t)
 

@@ -72,6 +72,7 @@ module _ (s places : List ℕ) (f b n : ℕ) (does : Does) (x : ℕ) where
           number = refl;
           block = refl;
           count = refl;
+          value = refl;
           parameters =
               record {
                 each = subst (Each (λ x. x < temporaries)) (block-codes s at B (t .behind) (p .short) (t .is) .0) (Guarantees.block .gives s at B (t .behind) (t .is) .head .parameters .each);
@@ -143,9 +144,14 @@ module _ (s places : List ℕ) (m : Frame) (π : ℕ) (r : Acted) {f : ℕ} (h :
   pub no-spawn : (out : List ℤ) → FindsSpawn places f π Nowhere → r ≡ jam → Spawns s places m π out r out
   unfolding spawnsOf
   no-spawn out d e P p =
-      record { is = no-child P out e (child-is P ∙ rw (d s P p)); left = filled-none m out ∙ rw (← h, d s P p) }
+      record {
+        is = no-child P out e (child-is P ∙ rw (d s P p));
+        refused = λ y. e;
+        left = filled-none m out ∙ rw (← h, d s P p);
+      }
 
-  module _ (out₀ out : List ℤ) (at : ℕ) (ok : Bool) {l : ℕ} (d : FindsSpawn places f π (At at)) (e₁ : l ≡ past at 1) (e₂ : Looks m s l out₀ ok out) where
+  module _ (out₀ out : List ℤ) (at : ℕ) (ok : Bool) {l : ℕ} (d : FindsSpawn places f π (At at)) (e₁ : l ≡ past at 1)
+      (e₂ : Looks m s l out₀ ok out) where
     child-at : (P : Program) → Places s P places → child P m π ≡ Frames._>>=_ (lookAll m (argumentsAt s l)) (λ v̄. callee P (byteAt s at) v̄)
     child-at P p =
         let (S, q, i) = d s P p in
@@ -159,7 +165,11 @@ module _ (s places : List ℕ) (m : Frame) (π : ℕ) (r : Acted) {f : ℕ} (h :
 
     pub not-looked : not ok ≡ true → r ≡ jam → Spawns s places m π out₀ r out
     not-looked t e P p =
-        record { is = no-child P out e (child-at P p ∙ rw (looked-none s l ok out _ (e₂ .is) t)); left = child-left P p }
+        record {
+          is = no-child P out e (child-at P p ∙ rw (looked-none s l ok out _ (e₂ .is) t));
+          refused = λ y. e;
+          left = child-left P p;
+        }
 
     module _ (there : Bool) {g n : ℕ} (t : not ok ≡ false) (z : length out ≡ most) (e₃ : g ≡ byteAt s at) (e₄ : n ≡ countAt s l) (k : Takes s places g n there) where
       child-of : (P : Program) → Places s P places → child P m π ≡ optional there (begin g (take n out))
@@ -168,7 +178,10 @@ module _ (s places : List ℕ) (m : Frame) (π : ℕ) (r : Acted) {f : ℕ} (h :
           ∙ rw (looked-some s l ok out _ (e₂ .is) t, ← e₃, ← e₄) (k P p (take n out) (passed-length s l out z e₄))
 
       pub not-taken : not there ≡ true → r ≡ jam → Spawns s places m π out₀ r out
-      not-taken u e P p = record { is = no-child P out e (child-of P p ∙ rw (not-true there u)); left = child-left P p }
+      not-taken u e P p =
+          record { is = no-child P out e (child-of P p ∙ rw (not-true there u)); refused = λ y. e; left = child-left P p }
 
       pub spawns : not there ≡ false → r ≡ acting Push g 0 n → Spawns s places m π out₀ r out
-      spawns u e P p = record { is = rw e (sym (child-of P p ∙ rw (not-false there u))); left = child-left P p }
+      spawns u e P p =
+          let c : child P m π ≡ some (begin g (take n out)) = child-of P p ∙ rw (not-false there u) in
+          record { is = rw e (sym c); refused = λ y. cc; left = child-left P p }

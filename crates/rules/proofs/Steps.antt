@@ -92,7 +92,8 @@ module _ (s : List ℕ) (m : Frame) (out : List ℤ) (r : Acted) where
   moved P does rule f b x k e z h (Entering.jams j a) = refused j (ap (by rule) (a k [] h refl))
 
 -- goto
-module _ (s places : List ℕ) (m : Frame) (at : ℕ) (out₀ out : List ℤ) (r : Acted) (ok : Bool) {l : ℕ} (e₁ : l ≡ past at 1) (e₂ : Looks m s l out₀ ok out) where
+module _ (s places : List ℕ) (m : Frame) (at : ℕ) (out₀ out : List ℤ) (r : Acted) (ok : Bool) {l : ℕ} (e₁ : l ≡ past at 1)
+    (e₂ : Looks m s l out₀ ok out) where
   unbound : not ok ≡ true → lookAll m (argumentsAt s (past at 1)) ≡ none
   unbound t = ap (λ (i : ℕ). lookAll m (argumentsAt s i)) (sym e₁) ∙ looked-none s l ok out _ (e₂ .is) t
 
@@ -106,7 +107,8 @@ module _ (s places : List ℕ) (m : Frame) (at : ℕ) (out₀ out : List ℤ) (r
   unfolding goto by
   goto-stuck t h P p = passing (refused s m out r h (rw (unbound t)))
 
-  pub goto-goes : {f b n : ℕ} → not ok ≡ false → length out ≡ most → f ≡ m .function → b ≡ byteAt s at → n ≡ countAt s l → Enters s places f b n Enter No.goto r → Rule.Goto s places m at out₀ r out
+  pub goto-goes : {f b n : ℕ} → not ok ≡ false → length out ≡ most → f ≡ m .function → b ≡ byteAt s at → n ≡ countAt s l
+      → Enters s places f b n Enter No.goto r → Rule.Goto s places m at out₀ r out
   unfolding goto
   goto-goes {f} {b} {n} t z h e₃ e₄ d P p =
       passing
@@ -125,11 +127,13 @@ module _ (s places : List ℕ) (m : Frame) (at : ℕ) (out₀ out : List ℤ) (r
     unfolding call acts
     call-missing u h P p = passing (refused s m out r h (rw (given t, callee-is P p, not-true there u)))
 
-    pub call-nowhere : {f : ℕ} → not there ≡ false → f ≡ m .function → FindsBlock places f b Nowhere → r ≡ jam → Rule.Call s places m at b out₀ r out
+    pub call-nowhere : {f : ℕ} → not there ≡ false → f ≡ m .function → FindsBlock places f b Nowhere → r ≡ jam
+        → Rule.Call s places m at b out₀ r out
     unfolding call acts blockOf functionOf
     call-nowhere u q d h P p = passing (refused s m out r h (rw (given t, callee-is P p, not-false there u, ← q, d s P p)))
 
-    pub call-goes : (i : ℕ) {f : ℕ} → not there ≡ false → f ≡ m .function → FindsBlock places f b (At i) → r ≡ acting Push g b n → Rule.Call s places m at b out₀ r out
+    pub call-goes : (i : ℕ) {f : ℕ} → not there ≡ false → f ≡ m .function → FindsBlock places f b (At i) → r ≡ acting Push g b n
+        → Rule.Call s places m at b out₀ r out
     unfolding call acts blockOf functionOf
     call-goes i u q d h P p =
         let (B, w, _) = d s P p in
@@ -300,7 +304,8 @@ module _ (s : List ℕ) (at : ℕ) {kind f : ℕ} (e₁ : kind ≡ byteAt s at) 
   kind-is n q = let z : byteAt s at ≡ n = sym e₁ ∙ q in rw (z, e₂)
 
   module _ (places : List ℕ) (m : Frame) (out₀ out : List ℤ) (r : Acted) where
-    by-kind : (P : Program) (n : ℕ) → kind ≡ n → Passes s m (argumentsOf (some (transferOf n s f))) out₀ r out (transfer P m (transferOf n s f))
+    by-kind : (P : Program) (n : ℕ) → kind ≡ n
+        → Passes s m (argumentsOf (some (transferOf n s f))) out₀ r out (transfer P m (transferOf n s f))
         → Passes s m (argumentsOf (some (transferAt s at))) out₀ r out (transfer P m (transferAt s at))
     by-kind P n q h = subst⁻¹ (λ (T : Transfer). Passes s m (argumentsOf (some T)) out₀ r out (transfer P m T)) (kind-is n q) h
 
@@ -368,7 +373,8 @@ module _ {s : List ℕ} {at : ℕ} (m : Frame) (B : Block) (d : Codes s at B) (l
   comes-transfer i e P = rw code-done (ap (transfer P m) (d .transfer ∙ rw e))
 
 -- what comes next, at i
-module _ (s places : List ℕ) (m : Frame) (at : ℕ) (r : Acted) {n f done i x : ℕ} (e₁ : n ≡ byteAt s at) (e₂ : f ≡ past at 1) (e₃ : done ≡ m .done) (e₄ : i ≡ statementsEnd s f (min done n)) (e₅ : x ≡ byteAt s i) where
+module _ (s places : List ℕ) (m : Frame) (at : ℕ) (r : Acted) {n f done i x : ℕ} (e₁ : n ≡ byteAt s at) (e₂ : f ≡ past at 1)
+    (e₃ : done ≡ m .done) (e₄ : i ≡ statementsEnd s f (min done n)) (e₅ : x ≡ byteAt s i) where
   next-statement : (B : Block) → Codes s at B → done < n → getElem? (B .code) (m .done) ≡ some (statementAt s i)
   next-statement B d l =
       let y : min done n ≡ done = min-eq-left (omega arith) in
@@ -406,12 +412,13 @@ module _ (s places : List ℕ) (m : Frame) (at : ℕ) (r : Acted) {n f done i x 
     pub coming-if : ltb done n ≡ false → eqb x 1 ≡ true → Rule.Valued (ltb done n) s places g x v r → Rule.Coming s places m at out r out
     unfolding transfer transferOf argumentsOf
     coming-if l o h₁ P p B d t =
+        let at : v .ok ≡ true → v .end ≡ expressionEnd s (past i 1) = λ y. evaluated-end v _ _ e₇ y ∙ ap (expressionEnd s) e₆ in
         let u : Rule.Valued false s places g x v r = subst (λ (q : Bool). Rule.Valued q s places g x v r) l h₁ in
         passes-transfer out out P B d (ltb-false done n l)
         (by-kind s i e₅ refl places m out out r P 1 (eqb-true x 1 o)
         (passes-none s m out r
         (u P p m (sym h) (expressionAt s (past i 1)) came _ _
-        (λ y. let q = evaluated-end v _ _ e₇ y ∙ ap (expressionEnd s) e₆ in (ap (byteAt s) (sym q), ap (λ (k : ℕ). byteAt s (past k 1)) (sym q))) out)))
+        (λ y. (ap (byteAt s) (sym (at y)), ap (λ (k : ℕ). byteAt s (past k 1)) (sym (at y)))) out)))
 
 -- the block of a frame
 module _ (s places : List ℕ) (m : Frame) {f b : ℕ} (h : f ≡ m .function) (g : b ≡ m .block) (P : Program) (p : Places s P places) where
@@ -429,7 +436,8 @@ module _ (s places : List ℕ) (m : Frame) (r : Acted) {f b : ℕ} (h : f ≡ m 
   unfolding act acts nextOf argumentsOf
   acts-nowhere out d e P p = rw (block-none s places m h g P p d) (passes-none s m out r (refused s m out r e refl))
 
-  pub acts-coming : (out₀ out : List ℤ) (at : ℕ) {i : ℕ} → FindsBlock places f b (At at) → i ≡ headEnd s at → Rule.Coming s places m i out₀ r out
+  pub acts-coming : (out₀ out : List ℤ) (at : ℕ) {i : ℕ} → FindsBlock places f b (At at) → i ≡ headEnd s at
+      → Rule.Coming s places m i out₀ r out
       → Rule.Acts s places m out₀ r out
   unfolding act acts nextOf
   acts-coming out₀ out at {i} d e k P p =

@@ -85,7 +85,7 @@ pub record Is (s : List ℕ) (m : Frame) (out : List ℤ) (r : Acted) (t : Rules
 
 -- the transfer of block B, and of its own block, that comes next in the frame m: all statements are done
 abbrev pub transferBy : Block → Option Statement → Option Syntax.Transfer
-transferBy B (some C) = none
+transferBy B (some s) = none
 transferBy B none = some (B .transfer)
 
 unfoldable pub nextIn : Frame → Block → Option Syntax.Transfer
@@ -133,6 +133,7 @@ pub record Arrives (s : List ℕ) (P : Program) (f b n : ℕ) (d : Does) (x : �
   pub number : r .number ≡ x
   pub block : r .block ≡ b
   pub count : r .count ≡ n
+  pub value : r .value ≡ pos 0
   pub parameters : Parameters s (r .parameters) n
   pub is : (m : Frame) (v̄ : List ℤ) → m .function ≡ f → length v̄ ≡ n →
       enter P m b v̄ ≡ some (bindAll (goTo m b 0) (argumentsAt s (r .parameters)) v̄)
@@ -160,9 +161,11 @@ childBy Push a out = some (begin (a .number) (passed a out))
 childBy Pop a out = none
 childBy Join a out = none
 
--- spawn call π of the frame m: the child's first frame, and its arguments are left in the buffer
+-- spawn call π of the frame m: the child's first frame, or the act of a frame to which no rule applies; and its arguments are
+-- left in the buffer
 pub record Child (P : Program) (m : Frame) (π : ℕ) (out : List ℤ) (r : Acted) (out′ : List ℤ) : Type 0 where
   pub is : childBy (r .does) r out′ ≡ Rules.child P m π
+  pub refused : Rules.child P m π ≡ none → r ≡ jam
   pub left : out′ ≡ filled m (spawnsOf (spawnIn (getElem? P (m .function)) π)) out
 
 abbrev pub Spawns : List ℕ → List ℕ → Frame → ℕ → List ℤ → Acted → List ℤ → Type 0

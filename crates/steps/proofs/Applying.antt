@@ -155,10 +155,9 @@ module _ {ws : List ℤ} {i j k n p : ℕ} (w : k ≡ startOf i j) (c : n ≡ le
         call = subst (λ (m : Frame). getElem? (m .calls) (m .promoted) ≡ some π) (frame-is h w x) u;
       }
 
-pub finds-none : (ws : List ℤ) (i j : ℕ) (o : Unpromoted) → o .ok ≡ false → Passed ws i j → j ≡ framesIn ws i → FindsOldest ws i o
-finds-none ws i j o y p l s places P a t b h =
-    let d : Each Done (frames t) = p s places P a t b h [] (frames t) refl (omega (arith, frames-counted (h .thread))) in
-    subst⁻¹ (λ (x : Bool). HolderOf i t x o) y d
+pub finds-none : (ws : List ℤ) (i j : ℕ) → Passed ws i j → j ≡ framesIn ws i → FindsOldest ws i (record { ok = false; at = 0; call = 0 })
+finds-none ws i j p l s places P a t b h =
+    (p s places P a t b h [] (frames t) refl (omega (arith, frames-counted (h .thread))), refl)
 
 -- the frames' thread, with one more call of k promoted
 abbrev parent : Frame → List Frame → List Frame → Thread
@@ -169,7 +168,7 @@ module _ {s places : List ℕ} {ws : List ℤ} {i : ℕ} (o : Unpromoted) (f : F
   pub promotes-none : o .ok ≡ false → Promotes s places ws i (Refused No.promoted) ws
   unfolding before promote promoting
   promotes-none y P a t b h =
-      let d : Each Done (frames t) = subst (λ (x : Bool). HolderOf i t x o) y (f s places P a t b h) in
+      let d : Each Done (frames t) = subst (λ (x : Bool). HolderOf i t x o) y (f s places P a t b h) .0 in
       rw (oldest-none (t .newest) (t .older) d) (refl, refl)
 
   module _ {m : ℕ} (y : o .ok ≡ true) (c : m ≡ threadsIn ws) where

@@ -85,7 +85,8 @@ module _ {s places : List ℕ} {ws : List ℤ} {i m : ℕ} (c : m ≡ framesIn w
         left = rw (more-none (t .older) _ l) (filled-none (t .newest) out);
       }
 
-  pub brings-given : (out₀ out : List ℤ) {k : ℕ} (r : Ended) → m ≡ 1 → k ≡ 1 + threadWords * i + 1 → Giving s places (frameAt ws k) out₀ r out
+  pub brings-given : (out₀ out : List ℤ) {k : ℕ} (r : Ended) → m ≡ 1 → k ≡ 1 + threadWords * i + 1
+      → Giving s places (frameAt ws k) out₀ r out
       → Brings s places ws i out₀ r out
   unfolding ended
   brings-given out₀ out {k} r o p g P a t b h =
@@ -108,17 +109,21 @@ ended-gives : (P : Program) (t : Thread) (v̄ : List ℤ) → ended P t ≡ some
 unfolding ended
 ended-gives P t v̄ e = go (t .older) e
   where
-    go : (K : List Frame) → returned K (act P (t .newest)) ≡ some v̄ → lookAll (t .newest) (ofOne K (returnsOf (t .newest) (nextOf P (t .newest)))) ≡ some v̄
+    go : (K : List Frame) → returned K (act P (t .newest)) ≡ some v̄
+        → lookAll (t .newest) (ofOne K (returnsOf (t .newest) (nextOf P (t .newest)))) ≡ some v̄
     go [] q = act-gives P (t .newest) v̄ q
     go (k ∷ K) q = let z = returned-more (k ∷ K) (act P (t .newest)) (omega arith) in cc
 
-module _ {s places : List ℕ} {ws : List ℤ} {i : ℕ} (out : List ℤ) (r : Ended) (q : Brings s places ws i (replicate most (pos 0)) r out) where
-  pub ends-given : {n : ℕ} → r ≡ Gives n → length out ≡ most → Ends s places ws i (record { ok = true; values = record { count = n; at = out } })
+module _ {s places : List ℕ} {ws : List ℤ} {i : ℕ} (out : List ℤ) (r : Ended)
+    (q : Brings s places ws i (replicate most (pos 0)) r out) where
+  pub ends-given : {n : ℕ} → r ≡ Gives n → length out ≡ most
+      → Ends s places ws i (record { ok = true; values = record { count = n; at = out } })
   unfolding lookedAs valuesAs
   ends-given {n} e l P a t b h =
-      let x : Brought P t (replicate most (pos 0)) (Gives n) out = subst (λ (y : Ended). Brought P t (replicate most (pos 0)) y out) e (q P a t b h) in
+      let x : Brought P t _ (Gives n) out = subst (λ (y : Ended). Brought P t (replicate most (pos 0)) y out) e (q P a t b h) in
       let k : length (take n out) ≡ n = length-take-le n out (omega (arith, x .few)) in
-      let z : out ≡ pad most (pos 0) (take n out) = x .left ∙ filled-zeros (t .newest) (endsWith P t) (take n out) (ended-gives P t _ (sym (x .is))) in
+      let f : lookAll (t .newest) (endsWith P t) ≡ some (take n out) = ended-gives P t _ (sym (x .is)) in
+      let z : out ≡ pad most (pos 0) (take n out) = x .left ∙ filled-zeros (t .newest) (endsWith P t) (take n out) f in
       rw (← x .is) (rw k (ap (λ (w̄ : List ℤ). record { ok = true; values = record { count = n; at = w̄ } }) z))
 
   pub ends-runs : r ≡ Runs → Ends s places ws i (record { ok = false; values = record { count = 0; at = replicate most (pos 0) } })
@@ -257,7 +262,8 @@ module _ {P : Program} {s : List ℕ} {t : Thread} {b : Pool} {out₀ out : List
       go Pop q k = absurd (miss (0 ∷ 1 ∷ 2 ∷ 3 ∷ 4 ∷ []) 6 tt k)
       go Join q k = absurd (miss (0 ∷ 1 ∷ 2 ∷ 3 ∷ 4 ∷ []) 7 tt k)
 
-module _ {s places : List ℕ} {ws : List ℤ} {i k : ℕ} (p : k ≡ newestAt ws i) (out₀ out : List ℤ) (d : Acted) (q : Acts s places (frameAt ws k) out₀ d out) where
+module _ {s places : List ℕ} {ws : List ℤ} {i k : ℕ} (p : k ≡ newestAt ws i) (out₀ out : List ℤ) (d : Acted)
+    (q : Acts s places (frameAt ws k) out₀ d out) where
   pub decides-act : Among (0 ∷ 1 ∷ 2 ∷ 3 ∷ 4 ∷ []) (d .does) → DecidesAt s places ws i out₀ d out
   decides-act e P a t b h = stays d (acts-as h d out₀ out p q) e
 
@@ -272,12 +278,16 @@ module _ {s places : List ℕ} {ws : List ℤ} {i k : ℕ} (p : k ≡ newestAt w
         let x = acts-as h d out₀ out p q in
         keeps d x e (λ w̄. refl) (f P a t b h out l (sound-by d (x .is) e) (act-by d (x .is) e))
 
-    pub decides-joined : {f : ℕ} (out′ : List ℤ) → d .does ≡ Join → f ≡ frameAt ws k .function → Joins s places ws i f (d .number) out r out′
+    pub decides-joined : {f : ℕ} (out′ : List ℤ) → d .does ≡ Join → f ≡ frameAt ws k .function
+        → Joins s places ws i f (d .number) out r out′
         → DecidesAt s places ws i out₀ r out′
     decides-joined out′ e o f P a t b h =
         let x = acts-as h d out₀ out p q in
         let y = f P a t b h (o ∙ ap (λ (m : Frame). m .function) (newest-is h p)) (act-by d (x .is) e) (sound-by d (x .is) e) in
         record {
           decided = y .decided;
-          left = y .left ∙ ap (leftByFirst P b) (x .left) ∙ sym (ap (λ (A : Act). leftBy P b A (passedBy P (t .newest) out₀)) (act-by d (x .is) e));
+          left =
+              y .left
+              ∙ ap (leftByFirst P b) (x .left)
+              ∙ sym (ap (λ (A : Act). leftBy P b A (passedBy P (t .newest) out₀)) (act-by d (x .is) e));
         }

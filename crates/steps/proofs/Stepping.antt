@@ -21,7 +21,8 @@ use Rattle.frames.proofs.Parts.{paste-all}
 use Rattle.steps.specs.declared.Made.{Made}
 use Rattle.steps.specs.declared.Made.the-variants.{Rule, Refused}
 use Rattle.steps.specs.declared.Stepper.{Stepper}
-use Rattle.steps.specs.Choice.{answerOf, Goes, Stops, Tried, Tries, FindsStepper, Chooses}
+use Rattle.steps.specs.declared.Stepper.the-variants.{Thread, Nobody}
+use Rattle.steps.specs.Choice.{answerOf, Goes, Stops, afterStep, Tried, Tries, Finds, FindsStepper, First, FindsFirst, Chooses}
 use Rattle.steps.proofs.Effects.{on-none}
 use Rattle.steps.proofs.Choosing.{pool-counted}
 
@@ -38,8 +39,8 @@ module _ {s places : List ℕ} {ws : List ℤ} {i : ℕ} {r : Made} {ws′ : Lis
       same : _≡_ {A = Called ℕ} (record { answer = answerOf r; after = ws′ }) (made ws (choice P p 0 i))
       same = f P p q w v .called
 
-      go : (x : Result) → choice P p 0 i ≡ x → Goes P p i
-      go (Result.made rule p′) y = (rule, p′, y)
+      go : (x : Result) → choice P p 0 i ≡ x → Goes P p i × (ws′ ≡ afterStep P p ws i)
+      go (Result.made rule p′) y = ((rule, p′, y), ap (λ (c : Called ℕ). c .after) same)
       go (Result.refused m) y =
           true-false true refl
           (ap (λ (z : Made). isGiven (answerOf z)) (sym e) ∙ ap (λ (c : Called ℕ). isGiven (c .answer)) (same ∙ ap (made ws) y))
@@ -67,8 +68,10 @@ pub idle-none : (s places : List ℕ) (ws : List ℤ) → length ws ≡ poolWord
 idle-none s places ws l = record { long = l; same = λ P p q w v. refl; stops = λ P p q w v j h. absurd (omega arith) }
 
 module _ {s places : List ℕ} {ws₀ ws : List ℤ} {i : ℕ} (h : Idle s places ws₀ ws i) where
-  pub idle-goes : (ws′ : List ℤ) (r : Bool) → r ≡ true → Tries s places ws i r ws′ → (P : Program) (p : Pool) → Places s P places → ws₀ ≡ wordsOf p → isPool P p ≡ true → Goes P p i
-  idle-goes ws′ r e f P p q w v = subst (λ (b : Bool). Tried P p ws i b ws′) e (f P p q (h .same P p q w v ∙ w) v)
+  pub idle-goes : (ws′ : List ℤ) (r : Bool) → r ≡ true → Tries s places ws i r ws′ → FindsFirst s places ws₀ (Thread i) ws′
+  idle-goes ws′ r e f P p q w v =
+      let x : Tried P p ws i true ws′ = subst (λ (b : Bool). Tried P p ws i b ws′) e (f P p q (h .same P p q w v ∙ w) v) in
+      (x .0, h .stops P p q w v, x .1 ∙ ap (λ (u : List ℤ). afterStep P p u i) (h .same P p q w v))
 
   pub idle-more : {ws′ : List ℤ} (r : Bool) → r ≡ false → length ws′ ≡ poolWords → Tries s places ws i r ws′ → Idle s places ws₀ ws′ (i + 1)
   idle-more {ws′} r e l f =
@@ -87,14 +90,20 @@ module _ {s places : List ℕ} {ws₀ ws : List ℤ} {i : ℕ} (h : Idle s place
           let z : i ≡ j = omega (arith, ltb-false j i e) in
           subst (Stops P p) z (tried P p q w v .0)
 
-  pub idle-all : {n : ℕ} → n ≡ threadsIn ws₀ → n ≤ i → (P : Program) (p : Pool) → Places s P places → ws₀ ≡ wordsOf p → isPool P p ≡ true → (j : ℕ) → Stops P p j
+  pub idle-all : {n : ℕ} → n ≡ threadsIn ws₀ → n ≤ i → FindsFirst s places ws₀ Nobody ws
   unfolding choice
-  idle-all {n} c l P p q w v j = go (ltb j i) refl
+  idle-all {n} c l P p q w v = (λ j. go j (ltb j i) refl, h .same P p q w v)
     where
-      go : (b : Bool) → ltb j i ≡ b → Stops P p j
-      go true e = h .stops P p q w v j (ltb-true j i e)
-      go false e = (No.thread, on-none (step P) p j (omega (arith, ltb-false j i e, pool-counted P p w v)))
+      go : (j : ℕ) (b : Bool) → ltb j i ≡ b → Stops P p j
+      go j true e = h .stops P p q w v j (ltb-true j i e)
+      go j false e = (No.thread, on-none (step P) p j (omega (arith, ltb-false j i e, pool-counted P p w v)))
 
 -- what is found in a copy
-pub copy-finds : {s places : List ℕ} {ws c : List ℤ} (d : List ℤ) (r : Stepper) → length d ≡ length ws → c ≡ pasted d 0 ws → FindsStepper s places c r → FindsStepper s places ws r
-copy-finds {s} {places} {ws} d r l e f = subst (λ (w : List ℤ). FindsStepper s places w r) (e ∙ paste-all d ws l) f
+pub copy-finds : {s places : List ℕ} {ws c : List ℤ} (d : List ℤ) (r : Stepper) (c′ : List ℤ) → length d ≡ length ws → c ≡ pasted d 0 ws
+    → FindsFirst s places c r c′ → FindsStepper s places ws r
+copy-finds {s} {places} {ws} {c} d r c′ l e f P p q w v =
+    go r (subst (λ (u : List ℤ). FindsFirst s places u r c′) (e ∙ paste-all d ws l) f P p q w v)
+  where
+    go : (r : Stepper) → First P p ws r c′ → Finds P p r
+    go (Thread i) x = x .0
+    go Nobody x = x .0

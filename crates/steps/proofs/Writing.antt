@@ -27,7 +27,7 @@ module _ {ws ws₁ ws₂ : List ℤ} {k : ℕ} (l : k + frameWords ≤ length ws
 
   pub was-set : (x : ℕ) (v : ℤ) → Advanced ws k ws₁ → Binds ws₁ k x v ws₂ → Sets ws k x v ws₂
   unfolding goTo bind
-  was-set x v f g m h p q = both h (f m h q) (λ o. g p (goTo m (m .block) (m .done + 1)) o)
+  was-set x v f g m h p q = both h (f m h q) (λ o. g .bound p (goTo m (m .block) (m .done + 1)) o)
 
   pub was-arrived : (s : List ℕ) (c p : ℕ) (out : List ℤ) → Jumped ws k c 0 ws₁ → BindsAll s p ws₁ k out ws₂ → Arrives s ws k c p out ws₂
   was-arrived s c p out f g m h e = both h (f m h) (λ o. g (goTo m c 0) o e)

@@ -117,7 +117,7 @@ pub record Decided (P : Program) (s : List ℕ) (t : Thread) (b : Pool) (out : L
   pub is : Decides P t b (decisionOf s t d out)
   pub sound : soundIn (d .does) s t b d
 
--- the act d is decided, and so many words are left in the buffer
+-- the act d is decided, and the buffer is left as w̄
 pub record DecidedWith (P : Program) (s : List ℕ) (t : Thread) (b : Pool) (w̄ : List ℤ) (d : Acted) (out : List ℤ) : Type 0 where
   pub decided : Decided P s t b out d
   pub left : out ≡ w̄
@@ -170,9 +170,13 @@ Goes P p i = (rule : ℕ) × (p′ : Pool) × (choice P p 0 i ≡ Result.made ru
 abbrev pub Stops : Program → Pool → ℕ → Type 0
 Stops P p i = (n : ℕ) × (choice P p 0 i ≡ Result.refused n)
 
+-- the words after a step
+abbrev pub afterStep : Program → Pool → List ℤ → ℕ → List ℤ
+afterStep P p ws i = made ws (choice P p 0 i) .after
+
 -- a step tried: it makes a rule, or is refused, and then the words are as they were
 abbrev pub Tried : Program → Pool → List ℤ → ℕ → Bool → List ℤ → Type 0
-Tried P p ws i true ws′ = Goes P p i
+Tried P p ws i true ws′ = Goes P p i × (ws′ ≡ afterStep P p ws i)
 Tried P p ws i false ws′ = Stops P p i × (ws′ ≡ ws)
 
 abbrev pub Tries : List ℕ → List ℕ → List ℤ → ℕ → Bool → List ℤ → Type 0
@@ -187,6 +191,15 @@ Finds P p Found.Nobody = (i : ℕ) → Stops P p i
 abbrev pub FindsStepper : List ℕ → List ℕ → List ℤ → Stepper → Type 0
 FindsStepper s places ws r =
     (P : Program) (p : Pool) → Places s P places → ws ≡ wordsOf p → isPool P p ≡ true → Finds P p r
+
+-- the first thread that steps was found, and has stepped; where none was found none does, and the words are as they were
+abbrev pub First : Program → Pool → List ℤ → Stepper → List ℤ → Type 0
+First P p ws (Found.Thread i) ws′ = Goes P p i × ((j : ℕ) → j < i → Stops P p j) × (ws′ ≡ afterStep P p ws i)
+First P p ws Found.Nobody ws′ = ((i : ℕ) → Stops P p i) × (ws′ ≡ ws)
+
+abbrev pub FindsFirst : List ℕ → List ℕ → List ℤ → Stepper → List ℤ → Type 0
+FindsFirst s places ws r ws′ =
+    (P : Program) (p : Pool) → Places s P places → ws ≡ wordsOf p → isPool P p ≡ true → First P p ws r ws′
 
 -- what a choice leaves: its answer, and the words of what it made, or the same words
 abbrev pub Comes : List ℤ → Result → Made → List ℤ → Type 0
@@ -224,7 +237,7 @@ pub record Holder (i : ℕ) (t : Thread) (k π : ℕ) : Type 0 where
 
 abbrev pub HolderOf : ℕ → Thread → Bool → Unpromoted → Type 0
 HolderOf i t true r = Holder i t (r .at) (r .call)
-HolderOf i t false r = Each Done (frames t)
+HolderOf i t false r = Each Done (frames t) × (r ≡ record { ok = false; at = 0; call = 0 })
 
 abbrev pub FindsOldest : List ℤ → ℕ → Unpromoted → Type 0
 FindsOldest ws i r =

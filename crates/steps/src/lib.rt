@@ -15,7 +15,7 @@ ghost use Rattle.model.specs.Pool.{frameWords, mostThreads, poolWords};
 ghost use Rattle.frames.specs.Edits.{threadsIn};
 ghost use Rattle.frames.specs.InPlace.{newestAt};
 ghost use Rattle.eval.specs.Code.{most};
-ghost use Rattle.steps.specs.Choice.{Ends, Brings, Calls, Returns, Joins, DecidesAt, Applied, Steps, Tries, FindsStepper, FindsOldest, Promotes, Chooses};
+ghost use Rattle.steps.specs.Choice.{Ends, Brings, Calls, Returns, Joins, DecidesAt, Applied, Steps, Tries, FindsStepper, FindsFirst, FindsOldest, Promotes, Chooses};
 ghost use Rattle.steps.specs.Writes.{Sets, Arrives, Opens, Closes, Shuts, Pushes, Pops, Unites, Spawned};
 
 // The rule by which a choice was made, or its refusal.
@@ -25,7 +25,7 @@ pub enum Made {
 }
 
 // The oldest frame with an unpromoted call, by its place, and the call; or none.
-pub struct Unpromoted {
+struct Unpromoted {
     pub ok: bool,
     pub at: usize,
     pub call: u8,
@@ -354,7 +354,7 @@ pub fn choice(s: &[u8], places: &[u16; 656], ws: &mut [i32], kind: u32, thread: 
     }
 }
 
-// Can thread i step? The words that cannot are left as they are.
+// Can thread i step? If it can it has stepped; if not the words are left as they are.
 fn goes(s: &[u8], places: &[u16; 656], ws: &mut [i32], i: u32) -> bool
     requires { ⌜ length (now ws) ≡ poolWords ⌝ }
     ensures { λ r. ⌜ Tries (now (s .entry)) (now (places .entry)) (now (ws .entry)) i r (now (ws .exit)) ⌝ }
@@ -366,10 +366,10 @@ fn goes(s: &[u8], places: &[u16; 656], ws: &mut [i32], i: u32) -> bool
     }
 }
 
-// The first thread that can step, tried on words that may be changed.
+// The first thread that can step, which then has stepped.
 fn first(s: &[u8], places: &[u16; 656], ws: &mut [i32]) -> Stepper
     requires { ⌜ length (now ws) ≡ poolWords ⌝ }
-    ensures { λ r. ⌜ FindsStepper (now (s .entry)) (now (places .entry)) (now (ws .entry)) r ⌝ }
+    ensures { λ r. ⌜ FindsFirst (now (s .entry)) (now (places .entry)) (now (ws .entry)) r (now (ws .exit)) ⌝ }
 {
     let n = frames::thread_count(ws);
     let mut i: u32 = 0;

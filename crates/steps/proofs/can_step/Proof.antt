@@ -11,4 +11,4 @@ can-step-spec =
     (λ c κs. search needs)
     (λ c. search needs)
     (λ c κs. search needs)
-    (λ c. copy-finds _ (c .before .first .result) (search needs) (c .before .before .before .before .copy2 .ensures) (c .before .first .ensures)))
+    (λ c. copy-finds _ (c .before .first .result) _ (search needs) (c .before .before .before .before .copy2 .ensures) (c .before .first .ensures)))

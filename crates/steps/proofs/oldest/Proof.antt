@@ -1,5 +1,3 @@
-use mathlib.Core.Path.{refl}
-use mathlib.Core.Bool.{false}
 use Rattle.steps.proofs.Applying.{Passed, passed-none, passed-more, finds-holder, finds-none}
 use borrow.Author.Needs.{needs}
 use Prim.Native.Nat.{_+_, _≤_, _-_}
@@ -46,7 +44,7 @@ loop-again : tie.Need-loop-again Inv-loop μ-loop
 loop-again c = (search needs, passed-more (c .before .before .before .frame-start .ensures) (c .before .opened .ensures) (c .before .before .promoted .ensures) (c .before .before .before .before .before .loop .inv .1) (c .if1 .left))
 
 returns-2 : tie.Need-returns-2 Inv-loop μ-loop
-returns-2 c = (search needs, finds-none _ _ _ (record { ok = false; at = 0; call = 0 }) refl (c .before .loop .inv .1) (search needs))
+returns-2 c = (search needs, finds-none _ _ _ (c .before .loop .inv .1) (search needs))
 
 pub oldest-spec : {M : Type 1} → statement M
 oldest-spec =
