@@ -11,6 +11,7 @@ use lib.Dec.{eqb, leb, ltb}
 use lib.IntN.{ℤ, pos}
 use lib.ListN.{length, getD, getElem?}
 use Rattle.model.specs.Numbers as No
+use Rattle.model.specs.Numbers.{Within, RuleOf}
 use Rattle.model.specs.Answers.{Refusal, Answer, with, outcome}
 use Rattle.model.specs.Lists.{Each, equal, unsnoc}
 use Rattle.model.specs.Values.{same}
@@ -37,11 +38,7 @@ use Rattle.model.proofs.Valid.{pool-facts}
 use Rattle.model.proofs.Words.{lent-given}
 use Rattle.model.proofs.Kept.{OnSome, on-bind, on-is, on-when}
 
--- lo to hi
-abbrev pub Within : ℕ → ℕ → ℕ → Type 0
-Within lo hi n = (lo ≤ n) × (n ≤ hi)
-
--- the same, from a test
+-- a range, from its test
 pub tested : (lo hi n : ℕ) → (leb lo n && leb n hi) ≡ true → Within lo hi n
 tested lo hi n e = (leb-true lo n (and-left _ (leb n hi) e), leb-true n hi (and-right (leb lo n) _ e))
 
@@ -507,10 +504,7 @@ module _ (f : Thread → List Thread → Result) where
   thread-there (t ∷ ts) zero h = omega arith
   thread-there (t ∷ ts) (suc i) h = omega (arith, thread-there ts i (λ e. h (ap (Rules.behind t) e)))
 
--- a step makes one of the rules 1 to 9, a promotion rule 10, and no other kind a rule
-abbrev pub RuleOf : ℕ → ℕ → Type 0
-RuleOf kind rule = ((kind ≡ 0) × Within No.stmt No.prom rule) ⊎ ((kind ≡ 1) × (rule ≡ No.promote))
-
+-- what a choice can make or be refused
 abbrev ChoiceOf : ℕ → Result → Type 0
 ChoiceOf kind (Result.made rule p) = RuleOf kind rule
 ChoiceOf kind (Result.refused n) = Within No.kind No.threads n
@@ -685,3 +679,33 @@ schedule-can s ws cs = go (lent s ws) refl (lent-can s ws)
     go (Answer.given l) e h =
         on (Calls.run (l .table) (l .pool) cs) (run-of (l .table) (read-limits s (l .table) (lent-given s ws l e .reads)) (l .pool) cs)
     go (Answer.refused q) e h = OfSchedule.lends h
+
+-- a start that is given leaves the fresh pool; a refused one, and a refused choice, leave the words
+module _ (s : List ℕ) (ws : List ℤ) where
+  pub start-begins : {u : Unit {0}} → Calls.start s ws .answer ≡ Answer.given u → Calls.start s ws .after ≡ Pool.wordsOf Pool.started
+  unfolding Calls.start Calls.starting
+  start-begins {u} e = go (Calls.lentWords s ws) e
+    where
+      go : (a : Answer (Unit {0})) → Calls.starting ws a .answer ≡ Answer.given u → Calls.starting ws a .after ≡ Pool.wordsOf Pool.started
+      go (Answer.given v) e = refl
+      go (Answer.refused q) e = refused-given e
+
+  pub start-leaves : {q : Refusal} → Calls.start s ws .answer ≡ Answer.refused q → Calls.start s ws .after ≡ ws
+  unfolding Calls.start Calls.starting
+  start-leaves {q} e = go (Calls.lentWords s ws) e
+    where
+      go : (a : Answer (Unit {0})) → Calls.starting ws a .answer ≡ Answer.refused q → Calls.starting ws a .after ≡ ws
+      go (Answer.given v) e = refused-given (sym e)
+      go (Answer.refused q) e = refl
+
+  pub choose-leaves : (kind i : ℕ) {q : Refusal} → Calls.choose s ws kind i .answer ≡ Answer.refused q → Calls.choose s ws kind i .after ≡ ws
+  unfolding Calls.choose Calls.chosen Calls.made
+  choose-leaves kind i {q} e = go (lent s ws) e
+    where
+      on : (x : Result) → Calls.made ws x .answer ≡ Answer.refused q → Calls.made ws x .after ≡ ws
+      on (Result.made rule p) e = refused-given (sym e)
+      on (Result.refused n) e = refl
+
+      go : (a : Answer Lent) → Calls.chosen ws a kind i .answer ≡ Answer.refused q → Calls.chosen ws a kind i .after ≡ ws
+      go (Answer.given l) e = on (choice (l .table) (l .pool) kind i) e
+      go (Answer.refused q) e = refl
