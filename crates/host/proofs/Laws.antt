@@ -328,6 +328,10 @@ module _ (vs : List ℤ) (four : length vs ≡ 4) where
   behind none h = absurd (omega arith)
   behind (some v̄) h = over-drop v̄ vs
 
+  behind-at : (a : Answer (Option (List ℤ))) (o : Option (List ℤ)) (n : ℕ) → a ≡ Answer.given o → n ≡ count o → n ≤ 4 →
+      drop n (written a vs) ≡ drop n vs
+  behind-at a o n p q h = rw (p, q) (behind o (rw q at h))
+
   unwritten : (o : Option (List ℤ)) → Four o → count o ≡ 255 → written (Answer.given o) vs ≡ vs
   unfolding written
   unwritten none h e = refl
@@ -346,7 +350,7 @@ values-law s ws vs r vs′ four g =
     (record {
       answers = ap (λ (x : Answer ℕ). valuesIn x (written a vs)) (tells counted-code Four R four-room lent-fits a can) ∙ values-in vs four a R can;
       given = λ e. let v = gave counted-code Four R four-room lent-fits a can e in rw (v .told) (four-or vs four (v .what) (v .has));
-      behind = λ e l. let v = gave counted-code Four R four-room lent-fits a can e in rw (v .told, v .is) (behind vs four (v .what) (rw (v .told) at l));
+      behind = λ e l. let v = gave counted-code Four R four-room lent-fits a can e in behind-at vs four a (v .what) (value (counted a)) (v .is) (v .told) l;
       unwritten = λ e o. let v = gave counted-code Four R four-room lent-fits a can e in rw (v .is) (unwritten vs four (v .what) (v .has) (sym (v .told) ∙ o));
       refused = λ e. let q = refused counted-code Four R four-room lent-fits a can e in (rw (q .told) (lent-told (q .has)), rw (q .is) (refused-written vs four (q .what)));
     })
