@@ -141,3 +141,10 @@ module _ {A : Type 0} {code : Answer A → ℕ} {val : A → ℕ} (c : Code code
   pub refused : (a : Answer A) → Numbers.Can G R a → isGiven (code a) ≡ false → Refused R a (code a)
   refused (Answer.given x) h e = true-false (isGiven (code (Answer.given x))) (rw (c .gives x) (given-is (val x) (room x h))) e
   refused (Answer.refused q) h e = record { what = q; is = refl; has = h; told = c .refuses q }
+
+  -- the other way round
+  pub is-given : (a : Answer A) (x : A) → Numbers.Can G R a → a ≡ Answer.given x → (isGiven (code a) ≡ true) × (value (code a) ≡ val x)
+  is-given a x h e = go (rw e at h)
+    where
+      go : G x → (isGiven (code a) ≡ true) × (value (code a) ≡ val x)
+      go g = rw (e, c .gives x) (given-is (val x) (room x g), given-value (val x) (room x g))

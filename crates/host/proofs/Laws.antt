@@ -51,7 +51,7 @@ start-told : {s : List ℕ} {q : Refusal} → Numbers.OfStart s q → OfTable s 
 start-told (Numbers.OfStart.table h) = inl (table-told h)
 start-told Numbers.OfStart.words = inr refl
 
-lent-fits : {s : List ℕ} (q : Refusal) → Numbers.OfLent s q → Fits q
+pub lent-fits : {s : List ℕ} (q : Refusal) → Numbers.OfLent s q → Fits q
 lent-fits _ (Numbers.OfLent.start h) = start-fits _ h
 lent-fits _ Numbers.OfLent.pool = inr (lit≤ tt, lit≤ tt)
 
@@ -291,10 +291,10 @@ which-law s ws r f =
     })
 
 -- main's values
-abbrev Four : Option (List ℤ) → Type 0
+abbrev pub Four : Option (List ℤ) → Type 0
 Four o = OnSome (λ v̄. length v̄ ≤ 4) o
 
-four-room : (o : Option (List ℤ)) → Four o → count o < 2 ^ 32
+pub four-room : (o : Option (List ℤ)) → Four o → count o < 2 ^ 32
 four-room none h = omega arith
 four-room (some v̄) h = omega arith
 
