@@ -55,7 +55,7 @@ unplaced n (inl h) = (ne-eqb n No.form (λ e. omega arith), ap (λ (b : Bool). b
 unplaced n (inr h) = (ne-eqb n No.form (λ e. omega arith), and-right-false (leb No.main n) _ (lt-leb n No.nesting (omega arith)))
 
 module _ (r : ℕ) where
-  plain-in : (n : ℕ) → number r ≡ n → Within 1 2 n ⊎ Within 12 21 n → refusalIn r ≡ Refusal.plain n
+  pub plain-in : (n : ℕ) → number r ≡ n → Within 1 2 n ⊎ Within 12 21 n → refusalIn r ≡ Refusal.plain n
   unfolding refusalIn
   plain-in n e h = let (p, q) = unplaced n h in rw (e, p, q)
 

@@ -29,7 +29,7 @@ use Rattle.host.specs.Macros.{isGiven, value, number, place, block, func
 use Rattle.host.specs.Exports.{done, ruled, stepperOf, counted, over, written}
 use Rattle.host.specs.Contracts.{Read, Check, Start, Choose, Schedule, Which, Values}
 use Rattle.host.specs.Laws as Laws
-use Rattle.host.specs.Laws.{answerIn, threadIn, valuesIn, fresh, Placed, OfTable, OfProgram, OfPool, OfChoice, ReadTells, CheckTells, StartTells, ChooseTells, ScheduleTells, WhichTells, ValuesTells}
+use Rattle.host.specs.Laws.{answerIn, threadIn, valuesIn, fresh, Placed, OfTable, OfProgram, OfPool, OfChoice, StopsAt, ReadTells, CheckTells, StartTells, ChooseTells, ScheduleTells, WhichTells, ValuesTells}
 use Rattle.host.proofs.Codes.{Fits, Gave, Refused, done-code, ruled-code, stepper-code, counted-code, thread, count, valued, tells, gave, refused}
 
 -- what the model can refuse fits into a number, and what the macros then read
@@ -219,43 +219,48 @@ choose-law s ws kind thread r ws′ g =
     })
 
 -- a list of choices
-schedule-fits : {s : List ℕ} {ws ws′ : List ℤ} {long made : ℕ} (q : Refusal) → Numbers.OfSchedule s ws long q made ws′ → Fits q
+schedule-fits : {s : List ℕ} {ws ws′ : List ℤ} {cs : List Choice} {made : ℕ} (q : Refusal) → Numbers.OfSchedule s ws cs q made ws′ → Fits q
 schedule-fits _ (Numbers.OfSchedule.lends h) = lent-fits _ h
-schedule-fits _ (Numbers.OfSchedule.chosen w l) = inr (omega arith, omega arith)
+schedule-fits _ (Numbers.OfSchedule.chosen w c there e) = inr (omega arith, omega arith)
 
-record Stopped (s : List ℕ) (ws : List ℤ) (long r made : ℕ) (ws′ : List ℤ) : Type 0 where
+record Stopped (s : List ℕ) (ws : List ℤ) (cs : List Choice) (r made : ℕ) (ws′ : List ℤ) : Type 0 where
   choice : OfChoice s r
   before : number r < No.kind → (made ≡ 0) × (ws′ ≡ ws)
-  at : No.kind ≤ number r → made < long
+  stops : No.kind ≤ number r → StopsAt s ws′ cs r made
 
 pool-below : {s : List ℕ} {r : ℕ} → OfPool s r → number r < No.kind
 pool-below (inl h) = omega (arith, h .numbered .1)
 pool-below (inr h) = omega arith
 
-schedule-told : {s : List ℕ} {ws ws′ : List ℤ} {long made : ℕ} {q : Refusal} → Numbers.OfSchedule s ws long q made ws′ →
-    Stopped s ws long (codeOf q) made ws′
+schedule-told : {s : List ℕ} {ws ws′ : List ℤ} {cs : List Choice} {made : ℕ} {q : Refusal} → Numbers.OfSchedule s ws cs q made ws′ →
+    Stopped s ws cs (codeOf q) made ws′
+unfolding ruled
 schedule-told (Numbers.OfSchedule.lends h) =
     let p = lent-told h in
-    record { choice = wider p; before = λ _. (refl, refl); at = λ l. absurd (omega (arith, pool-below p)) }
-schedule-told (Numbers.OfSchedule.chosen w l) =
-    record { choice = inr (omega arith, omega arith); before = λ b. absurd (omega arith); at = λ _. l }
+    record { choice = wider p; before = λ _. (refl, refl); stops = λ l. absurd (omega (arith, pool-below p)) }
+schedule-told (Numbers.OfSchedule.chosen w c there e) =
+    record {
+      choice = inr (omega arith, omega arith);
+      before = λ b. absurd (omega arith);
+      stops = λ _. record { choice = c; there = there; again = λ q w′ g. g .number ∙ ap ruled e };
+    }
 
 pub schedule-law : (s : List ℕ) (ws : List ℤ) (cs : List Choice) (r made : ℕ) (ws′ : List ℤ) → Schedule s ws cs r made ws′ →
     ScheduleTells s ws cs r made ws′
 schedule-law s ws cs r made ws′ g =
     let c = Calls.schedule s ws cs in
     let G : Unit {0} → Type 0 = λ u. c .made ≡ length cs in
-    let R : Refusal → Type 0 = λ q. Numbers.OfSchedule s ws (length cs) q (c .made) (c .after) in
+    let R : Refusal → Type 0 = λ q. Numbers.OfSchedule s ws cs q (c .made) (c .after) in
     let can = schedule-can s ws cs in
-    let stops : isGiven (done (c .answer)) ≡ false → Stopped s ws (length cs) (done (c .answer)) (c .made) (c .after) =
+    let stopped : isGiven (done (c .answer)) ≡ false → Stopped s ws cs (done (c .answer)) (c .made) (c .after) =
     λ e. let q = done-refused (c .answer) G R schedule-fits can e in rw (q .told) (schedule-told (q .has)) in
     rw (g .number, g .count, g .words)
     (record {
       answers = done-in (c .answer) G R schedule-fits can;
       given = λ e. let v = done-gave (c .answer) G R schedule-fits can e in (v .told, v .has);
-      refused = λ e. stops e .choice;
-      before = λ e. stops e .before;
-      at = λ e. stops e .at;
+      refused = λ e. stopped e .choice;
+      before = λ e. stopped e .before;
+      stops = λ e. stopped e .stops;
     })
 
 -- which thread can step

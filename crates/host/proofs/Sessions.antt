@@ -6,7 +6,7 @@ use mathlib.Core.Bool.{Bool, true, false, cond}
 use mathlib.Core.Option.{Option, none, some}
 use mathlib.Core.List.{List, [], _∷_, _++_, append-assoc}
 use native.Mathlib.Omega.{arith}
-use lib.Dec.{eqb}
+use lib.Dec.{eqb, lit≤}
 use lib.IntN.{ℤ}
 use lib.ListN.{length, getD, getElem?}
 use Rattle.model.specs.Numbers as No
@@ -26,13 +26,13 @@ use Rattle.model.proofs.Numbers as Numbers
 use Rattle.model.proofs.Numbers.{read-heading, steps-there, step-there, values-can}
 use Rattle.safety.specs.NeverJams as Model
 use Rattle.safety.specs.NeverJams.{Put, left, finally, whileGiven, ofSchedule, ofCall, choices}
-use Rattle.safety.proofs.Theorem.{demand3, now, always-pool}
+use Rattle.safety.proofs.Theorem.{demand3, now, always-pool, waiting-moves}
 use Rattle.host.specs.Macros.{isGiven, value, number, poolWords, step, noThread}
 use Rattle.host.specs.Exports.{counted}
 use Rattle.host.specs.Contracts.{Check, Start, Choose, Schedule, Which, Values}
 use Rattle.host.specs.Laws.{refusalIn, answerIn, threadIn, OfChoice}
 use Rattle.host.specs.Sessions.{Call, Made, Session, Unstuck, Answered, Returned, CanStep, OutOfFrames, Stands, Safe, NeverJams, Demand3}
-use Rattle.host.proofs.Codes.{counted-code, count, is-given}
+use Rattle.host.proofs.Codes.{counted-code, count, is-given, plain-in}
 use Rattle.host.proofs.Macros.{refusal-number, given-read, refused-read, read-given, read-refused, done-read, stopped-read, read-done}
 use Rattle.host.proofs.Laws.{Four, four-room, lent-fits, check-law, start-law, choose-law, schedule-law, which-law}
 
@@ -97,6 +97,13 @@ module _ (s : List ℕ) (ws : List ℤ) (h : Calls.check s ≡ Answer.given tt) 
 
     reached-stands : Model.Stands s w
     reached-stands = rw (← g .is) (demand3 s ws h n .safe (g .calls) .stands)
+
+    reached-waiting : (i : ℕ) → Calls.choose s w 0 i .answer ≡ Answer.refused (Refusal.plain No.waits) →
+        Model.CanStep s w ⊎ Model.OutOfFrames s w
+    reached-waiting i e = go (rw (← g .is) at e)
+      where
+        go : Calls.choose s (now s ws (g .calls)) 0 i .answer ≡ Answer.refused (Refusal.plain No.waits) → Model.CanStep s w ⊎ Model.OutOfFrames s w
+        go e = rw (← g .is) (waiting-moves s ws h n (g .calls) i e)
 
     reached-left : (c : Model.Call) → Reached (left s w c)
     unfolding finally
@@ -216,6 +223,16 @@ module _ (s : List ℕ) (w : List ℤ) (lends : (l : Lent) × (lent s w ≡ Answ
       ordinary (inl (z, x)) = x
       ordinary (inr (z, x)) = absurd (omega arith)
 
+  -- a step that waits
+  waits : (thread r : ℕ) (w′ : List ℤ) → Choose s w step thread r w′ → isGiven r ≡ false → number r ≡ No.waits →
+      Calls.choose s w 0 thread .answer ≡ Answer.refused (Refusal.plain No.waits)
+  waits thread r w′ m e i =
+      sym (choose-law s w step thread r w′ m .answers) ∙ refused-read r e ∙ ap Answer.refused (plain-in r No.waits i (inr (lit≤ tt, lit≤ tt)))
+
+  moves : Model.CanStep s w ⊎ Model.OutOfFrames s w → CanStep s w ⊎ OutOfFrames s w
+  moves (inl c) = inl (can-step c)
+  moves (inr o) = inr (out-of-frames o)
+
 -- sessions of an accepted table
 module _ (s : List ℕ) (ws : List ℤ) (h : Calls.check s ≡ Answer.given tt) (n : length ws ≡ poolWords) where
   abbrev At : List ℤ → Type 0
@@ -254,6 +271,7 @@ module _ (s : List ℕ) (ws : List ℤ) (h : Calls.check s ≡ Answer.given tt) 
         stands = stands s w′ lends t;
         nobody = nobody s w′ lends t;
         somebody = somebody s w′ lends;
+        waiting = λ i r v m e k. moves s w′ lends (reached-waiting s ws h n g′ i (waits s w′ lends i r v m e k));
       }
 
   begun : At (Calls.start s ws .after)

@@ -8,7 +8,7 @@ use mathlib.Core.Option.{Option, none, some}
 use mathlib.Core.List.{List, _∷_}
 use lib.Dec.{eqb, leb}
 use lib.IntN.{ℤ, pos}
-use lib.ListN.{length, getD, take, drop, replicate}
+use lib.ListN.{length, getD, getElem?, take, drop, replicate}
 use Rattle.model.specs.Numbers as No
 use Rattle.model.specs.Numbers.{Within, RuleOf}
 use Rattle.model.specs.Answers.{Refusal, Answer, outcome}
@@ -79,7 +79,7 @@ pub record CheckTells (s : List ℕ) (r : ℕ) : Type 0 where
 unfoldable pub fresh : List ℤ
 fresh = pos 1 ∷ pos 1 ∷ replicate (poolWords - 2) (pos 0)
 
--- mezdaulk_start: it is given exactly for a pool's length of words and a table that reads
+-- mezdaulk_start
 pub record StartTells (s : List ℕ) (ws : List ℤ) (r : ℕ) (ws′ : List ℤ) : Type 0 where
   pub answers : outcome (answerIn r) ≡ Calls.start s ws .answer
   pub given : isGiven r ≡ true → (value r ≡ 0) × (ws′ ≡ fresh)
@@ -91,14 +91,20 @@ pub record ChooseTells (s : List ℕ) (ws : List ℤ) (kind thread r : ℕ) (ws�
   pub given : isGiven r ≡ true → RuleOf kind (value r)
   pub refused : isGiven r ≡ false → OfChoice s r × (ws′ ≡ ws)
 
--- mezdaulk_schedule: given it made all of its choices; refused before them it made none and wrote nothing; refused at one of
--- them, that is the one behind those made
+-- the choice behind those made: put to the words that they left, it is answered the same number
+pub record StopsAt (s : List ℕ) (ws : List ℤ) (cs : List Choice) (r made : ℕ) : Type 0 where
+  pub choice : Choice
+  pub there : getElem? cs made ≡ some choice
+  pub again : (q : ℕ) (ws′ : List ℤ) → Choose s ws (choice .kind) (choice .thread) q ws′ → q ≡ r
+
+-- mezdaulk_schedule: given, it made all of its choices; refused with 1 to 3, 12 or 13, it made none and wrote nothing; refused
+-- with 14 to 21, it stopped at a choice
 pub record ScheduleTells (s : List ℕ) (ws : List ℤ) (cs : List Choice) (r made : ℕ) (ws′ : List ℤ) : Type 0 where
   pub answers : outcome (answerIn r) ≡ Calls.schedule s ws cs .answer
   pub given : isGiven r ≡ true → (value r ≡ 0) × (made ≡ length cs)
   pub refused : isGiven r ≡ false → OfChoice s r
   pub before : isGiven r ≡ false → number r < No.kind → (made ≡ 0) × (ws′ ≡ ws)
-  pub at : isGiven r ≡ false → No.kind ≤ number r → made < length cs
+  pub stops : isGiven r ≡ false → No.kind ≤ number r → StopsAt s ws′ cs r made
 
 -- mezdaulk_which: a right answer; its value is a thread below 8 whose step makes a rule, or 8 exactly for none
 pub record WhichTells (s : List ℕ) (ws : List ℤ) (r : ℕ) : Type 0 where

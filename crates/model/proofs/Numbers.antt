@@ -6,6 +6,7 @@ use mathlib.Core.Bool.{Bool, true, false, _&&_, cond}
 use mathlib.Core.Option.{Option, none, some}
 use mathlib.Core.List.{List, [], _∷_, _++_}
 use native.Mathlib.Nat.{zero-add}
+use native.Mathlib.Numerals.{add-one}
 use native.Mathlib.Omega.{arith}
 use lib.Dec.{eqb, leb, ltb}
 use lib.IntN.{ℤ, pos}
@@ -35,8 +36,9 @@ use Rattle.model.proofs.Reading.{next-ok, byte-ok, many-item, many-leng
 use Rattle.model.proofs.Guarantees
 use Rattle.model.proofs.Guarantees.{Gives, gives-pure, gives-then, gives-byte, gives-many, reads, read-limits}
 use Rattle.model.proofs.Valid.{pool-facts}
-use Rattle.model.proofs.Words.{lent-given}
-use Rattle.model.proofs.Kept.{OnSome, on-bind, on-is, on-when}
+use Rattle.model.proofs.Words.{lent-given, lent-words}
+use Rattle.model.proofs.Kept.{OnSome, on-bind, on-is, on-when, choose-lent}
+use Rattle.model.proofs.Schedules.{run-kept}
 
 -- a range, from its test
 pub tested : (lo hi n : ℕ) → (leb lo n && leb n hi) ≡ true → Within lo hi n
@@ -634,50 +636,58 @@ module _ (s : List ℕ) (ws : List ℤ) where
   which-can (Answer.given none) h = tt
   which-can (Answer.refused q) h = subst (Can Any (OfLent s)) h lent-can
 
--- a list of choices: all are made, or the first that is not is refused with 14 to 21
-abbrev RanOf : ℕ → Option ℕ → ℕ → Type 0
-RanOf made none long = made ≡ long
-RanOf made (some n) long = (made < long) × Within No.kind No.threads n
+-- a list of choices: all are made; or the one behind those made is refused, by the pool that they left
+abbrev RanOf : Program → List Choice → ℕ → Option ℕ → Pool → Type 0
+RanOf P cs made none p = made ≡ length cs
+RanOf P cs made (some n) p = (c : Choice) × (getElem? cs made ≡ some c) × (choice P p (c .kind) (c .thread) ≡ Result.refused n)
 
-run-of : (P : Program) → Limits P → (p : Pool) (cs : List Choice) → RanOf (Calls.run P p cs .made) (Calls.run P p cs .refusal) (length cs)
+run-of : (P : Program) (p : Pool) (cs : List Choice) → let r = Calls.run P p cs in RanOf P cs (r .made) (r .refusal) (r .pool)
 unfolding Calls.run Calls.goOn
-run-of P L p [] = refl
-run-of P L p (c ∷ cs) = go (choice P p (c .kind) (c .thread)) (choice-of P L p (c .kind) (c .thread)) (λ p′. run-of P L p′ cs)
+run-of P p [] = refl
+run-of P p (c ∷ cs) = go (choice P p (c .kind) (c .thread)) refl (λ p′. run-of P p′ cs)
   where
-    more : (made : ℕ) (o : Option ℕ) → RanOf made o (length cs) → RanOf (made + 1) o (suc (length cs))
-    more made none h = omega arith
-    more made (some n) h = (omega arith, h .1)
+    more : (made : ℕ) (o : Option ℕ) (q : Pool) → RanOf P cs made o q → RanOf P (c ∷ cs) (made + 1) o q
+    more made none q h = omega arith
+    more made (some n) q h = (h .0, rw (add-one made) (h .1), h .2)
 
-    go : (x : Result) → ChoiceOf (c .kind) x →
-        ((p′ : Pool) → RanOf (Calls.run P p′ cs .made) (Calls.run P p′ cs .refusal) (length cs)) →
-        RanOf (Calls.goOn p x (λ p′. Calls.run P p′ cs) .made) (Calls.goOn p x (λ p′. Calls.run P p′ cs) .refusal) (suc (length cs))
-    go (Result.made rule p′) h k = more (Calls.run P p′ cs .made) (Calls.run P p′ cs .refusal) (k p′)
-    go (Result.refused n) h k = (omega arith, h)
+    go : (x : Result) → choice P p (c .kind) (c .thread) ≡ x →
+        ((p′ : Pool) → let r = Calls.run P p′ cs in RanOf P cs (r .made) (r .refusal) (r .pool)) →
+        let r = Calls.goOn p x (λ p′. Calls.run P p′ cs) in RanOf P (c ∷ cs) (r .made) (r .refusal) (r .pool)
+    go (Result.made rule p′) e k = let r = Calls.run P p′ cs in more (r .made) (r .refusal) (r .pool) (k p′)
+    go (Result.refused n) e k = (c, refl, e)
 
--- the refusal of a list of so many choices, how many were made, and the words: nothing was made and the words ws stayed, or a
--- choice was refused
-pub data OfSchedule (s : List ℕ) (ws : List ℤ) (long : ℕ) : Refusal → ℕ → List ℤ → Type 0 where
-  lends : {q : Refusal} → OfLent s q → OfSchedule s ws long q 0 ws
-  chosen : {n made : ℕ} {ws′ : List ℤ} → Within No.kind No.threads n → made < long → OfSchedule s ws long (Refusal.plain n) made ws′
+-- the refusal of a list of choices, how many were made, and the words afterwards: nothing was made and the words ws stayed; or
+-- the choice behind those made was refused, as it is by the words that they left
+pub data OfSchedule (s : List ℕ) (ws : List ℤ) (cs : List Choice) : Refusal → ℕ → List ℤ → Type 0 where
+  lends : {q : Refusal} → OfLent s q → OfSchedule s ws cs q 0 ws
+  chosen : {n made : ℕ} {ws′ : List ℤ} → Within No.kind No.threads n → (c : Choice) → getElem? cs made ≡ some c →
+      Calls.choose s ws′ (c .kind) (c .thread) .answer ≡ Answer.refused (Refusal.plain n) → OfSchedule s ws cs (Refusal.plain n) made ws′
 
-abbrev pub ScheduleCan : List ℕ → List ℤ → ℕ → Calls.Scheduled → Type 0
-ScheduleCan s ws long c = Can (λ _. c .made ≡ long) (λ q. OfSchedule s ws long q (c .made) (c .after)) (c .answer)
+abbrev pub ScheduleCan : List ℕ → List ℤ → List Choice → Calls.Scheduled → Type 0
+ScheduleCan s ws cs d = Can (λ _. d .made ≡ length cs) (λ q. OfSchedule s ws cs q (d .made) (d .after)) (d .answer)
 
-pub schedule-can : (s : List ℕ) (ws : List ℤ) (cs : List Choice) → ScheduleCan s ws (length cs) (Calls.schedule s ws cs)
-unfolding Calls.schedule Calls.scheduled Calls.reported Calls.stopped
+pub schedule-can : (s : List ℕ) (ws : List ℤ) (cs : List Choice) → ScheduleCan s ws cs (Calls.schedule s ws cs)
+unfolding Calls.schedule Calls.scheduled Calls.reported Calls.stopped Calls.made
 schedule-can s ws cs = go (lent s ws) refl (lent-can s ws)
   where
-    on : (r : Calls.Ran) → RanOf (r .made) (r .refusal) (length cs) → ScheduleCan s ws (length cs) (Calls.reported r)
-    on r h = ended (r .refusal) h
+    on : (P : Program) (r : Calls.Ran) → read s ≡ Answer.given P → Pool.isPool P (r .pool) ≡ true → RanOf P cs (r .made) (r .refusal) (r .pool) →
+        ScheduleCan s ws cs (Calls.reported r)
+    on P r e v h = ended (r .refusal) h
       where
-        ended : (o : Option ℕ) → RanOf (r .made) o (length cs) →
-            Can {A = Unit {0}} (λ _. r .made ≡ length cs) (λ q. OfSchedule s ws (length cs) q (r .made) (Pool.wordsOf (r .pool))) (Calls.stopped o)
+        ended : (o : Option ℕ) → RanOf P cs (r .made) o (r .pool) →
+            Can {A = Unit {0}} (λ _. r .made ≡ length cs) (λ q. OfSchedule s ws cs q (r .made) (Pool.wordsOf (r .pool))) (Calls.stopped o)
         ended none h = h
-        ended (some n) h = OfSchedule.chosen (h .1) (h .0)
+        ended (some n) (c, there, q) =
+            let w : ChoiceOf (c .kind) (Result.refused n) = subst (ChoiceOf (c .kind)) q (choice-of P (read-limits s P e) (r .pool) (c .kind) (c .thread)) in
+            let m = choose-lent s (Pool.wordsOf (r .pool)) (c .kind) (c .thread) (lent-words s P (r .pool) e v) in
+            OfSchedule.chosen w c there (ap (λ (d : Calls.Called ℕ). d .answer) (m ∙ ap (Calls.made (Pool.wordsOf (r .pool))) q))
 
-    go : (a : Answer Lent) → lent s ws ≡ a → Can Any (OfLent s) a → ScheduleCan s ws (length cs) (Calls.scheduled ws a cs)
+    go : (a : Answer Lent) → lent s ws ≡ a → Can Any (OfLent s) a → ScheduleCan s ws cs (Calls.scheduled ws a cs)
     go (Answer.given l) e h =
-        on (Calls.run (l .table) (l .pool) cs) (run-of (l .table) (read-limits s (l .table) (lent-given s ws l e .reads)) (l .pool) cs)
+        let g = lent-given s ws l e in
+        on (l .table) (Calls.run (l .table) (l .pool) cs) (g .reads)
+        (run-kept (l .table) (read-limits s (l .table) (g .reads)) (l .pool) cs (g .valid))
+        (run-of (l .table) (l .pool) cs)
     go (Answer.refused q) e h = OfSchedule.lends h
 
 -- a start that is given leaves the fresh pool; a refused one, and a refused choice, leave the words
