@@ -1,22 +1,22 @@
 -- What the macros read in the number of an answer is that answer.
-use Prim.Native.Nat.{ℕ, _+_, _*_, _^_, _/_, _%_, _≤_, _<_}
-use mathlib.Core.Path.{_≡_, refl, sym, _∙_, ap}
+use Prim.Native.Nat.{ℕ, _+_, _^_, _/_, _%_, _≤_, _<_}
+use mathlib.Core.Path.{_≡_, refl, ap}
 use mathlib.Core.Logic.{_⊎_, inl, inr}
-use mathlib.Core.Bool.{Bool, true, false, _&&_, cond}
+use mathlib.Core.Bool.{Bool, true, false, _&&_}
 use mathlib.Core.Option.{Option, none, some}
-use mathlib.Core.List.{List, [], _∷_}
+use mathlib.Core.List.{List}
 use native.Mathlib.Omega.{arith}
 use lib.Dec.{eqb, leb}
 use lib.IntN.{ℤ}
-use lib.ListN.{length, take, drop}
+use lib.ListN.{length}
 use Rattle.model.specs.Numbers as No
 use Rattle.model.specs.Numbers.{Within}
-use Rattle.model.specs.Answers.{Refusal, Answer, outcome}
-use Rattle.model.proofs.Facts.{eq-eqb, ne-eqb, le-leb, lt-leb, both-and, refused-given, true-false}
+use Rattle.model.specs.Answers.{Refusal, Answer}
+use Rattle.model.proofs.Facts.{eq-eqb, ne-eqb, le-leb, lt-leb, both-and, true-false}
 use Rattle.model.proofs.Numbers as Numbers
 use Rattle.answers.specs.Coded.{given, codeOf}
 use Rattle.host.specs.Macros.{isGiven, value, number, place, block, function}
-use Rattle.host.specs.Exports.{done, ruled, stepperOf, counted, over, written}
+use Rattle.host.specs.Exports.{done, ruled, stepperOf, counted}
 use Rattle.host.specs.Laws.{refusalIn, answerIn}
 
 -- a number with bit 32, and one without
@@ -67,7 +67,9 @@ module _ (r : ℕ) where
   unfolding refusalIn
   fault-in n f b e h i j =
       let p : eqb n No.form ≡ false = ne-eqb n No.form (λ e. omega arith) in
-      let q : (leb No.main n && leb n No.nesting) ≡ true = both-and (leb No.main n) _ (le-leb No.main n (h .0)) (le-leb n No.nesting (h .1)) in
+      let q : (leb No.main n && leb n No.nesting) ≡ true =
+      both-and (leb No.main n) _ (le-leb No.main n (h .0)) (le-leb n No.nesting (h .1))
+      in
       rw (e, p, q, i, j)
 
 pub refusal-in : (q : Refusal) → Fits q → refusalIn (codeOf q) ≡ q
@@ -127,8 +129,8 @@ pub record Refused {A : Type 0} (R : Refusal → Type 0) (a : Answer A) (r : ℕ
   pub has : R what
   pub told : r ≡ codeOf what
 
-module _ {A : Type 0} {code : Answer A → ℕ} {val : A → ℕ} (c : Code code val) (G : A → Type 0) (R : Refusal → Type 0) (room : (x : A) → G x → val x < 2 ^ 32)
-    (fits : (q : Refusal) → R q → Fits q) where
+module _ {A : Type 0} {code : Answer A → ℕ} {val : A → ℕ} (c : Code code val) (G : A → Type 0) (R : Refusal → Type 0)
+    (room : (x : A) → G x → val x < 2 ^ 32) (fits : (q : Refusal) → R q → Fits q) where
   pub tells : (a : Answer A) → Numbers.Can G R a → answerIn (code a) ≡ valued val a
   tells (Answer.given x) h = rw (c .gives x) (given-in (val x) (room x h))
   tells (Answer.refused q) h = rw (c .refuses q) (refused-in q (fits q h))

@@ -1,8 +1,8 @@
 -- The laws of specs/Laws: from the numbers that the model's calls can give, and what the macros read in them.
-use Prim.Native.Nat.{ℕ, zero, suc, _+_, _*_, _^_, _≤_, _<_}
+use Prim.Native.Nat.{ℕ, _^_, _≤_, _<_}
 use mathlib.Core.Path.{_≡_, refl, sym, _∙_, ap}
 use mathlib.Core.Logic.{_⊎_, inl, inr}
-use mathlib.Core.Bool.{Bool, true, false, cond}
+use mathlib.Core.Bool.{true, false}
 use mathlib.Core.Option.{Option, none, some}
 use mathlib.Core.List.{List, [], _∷_}
 use native.Mathlib.Omega.{arith}
@@ -10,7 +10,7 @@ use lib.Dec.{eqb, lit≤}
 use lib.IntN.{ℤ}
 use lib.ListN.{length, getD, getElem?, take, drop}
 use Rattle.model.specs.Numbers as No
-use Rattle.model.specs.Numbers.{Within, RuleOf}
+use Rattle.model.specs.Numbers.{RuleOf}
 use Rattle.model.specs.Answers.{Refusal, Answer, outcome}
 use Rattle.model.specs.Syntax.{Function, Program}
 use Rattle.model.specs.Limits.{InFunction}
@@ -18,19 +18,22 @@ use Rattle.model.specs.Lists.{pad, concat}
 use Rattle.model.specs.Sets.{below}
 use Rattle.model.specs.Pool.{wordsOfFrame, wordsOfThread, wordsOf, begin, started}
 use Rattle.model.specs.Calls as Calls
-use Rattle.model.specs.Calls.{Choice, Lent, lent}
-use Rattle.model.proofs.Facts.{eq-eqb, ne-eqb, each-at, at-below, refused-given, given-injective}
+use Rattle.model.specs.Calls.{Choice}
+use Rattle.model.proofs.Facts.{ne-eqb, each-at, at-below}
 use Rattle.model.proofs.Guarantees.{read-limits}
 use Rattle.model.proofs.Kept.{OnSome}
 use Rattle.model.proofs.Numbers as Numbers
-use Rattle.model.proofs.Numbers.{Can, Any, read-can, check-can, start-can, choose-can, schedule-can, which-can, values-can, read-heading, start-begins, start-leaves, choose-leaves}
+use Rattle.model.proofs.Numbers.{Can, Any, read-can, check-can, start-can, choose-can, schedule-can, which-can, values-can}
+use Rattle.model.proofs.Numbers.{read-heading, start-begins, start-leaves, choose-leaves}
 use Rattle.answers.specs.Coded.{codeOf}
-use Rattle.host.specs.Macros.{isGiven, value, number, place, block, function}
+use Rattle.host.specs.Macros.{isGiven, value, number, block}
 use Rattle.host.specs.Exports.{done, ruled, stepperOf, counted, over, written}
 use Rattle.host.specs.Contracts.{Read, Check, Start, Choose, Schedule, Which, Values}
 use Rattle.host.specs.Laws as Laws
-use Rattle.host.specs.Laws.{answerIn, threadIn, valuesIn, fresh, Placed, OfTable, OfProgram, OfPool, OfChoice, StopsAt, ReadTells, CheckTells, StartTells, ChooseTells, ScheduleTells, WhichTells, ValuesTells}
-use Rattle.host.proofs.Codes.{Fits, Gave, Refused, done-code, ruled-code, stepper-code, counted-code, thread, count, valued, tells, gave, refused}
+use Rattle.host.specs.Laws.{answerIn, threadIn, valuesIn, fresh, Placed, OfTable, OfProgram, OfPool, OfChoice, StopsAt}
+use Rattle.host.specs.Laws.{ReadTells, CheckTells, StartTells, ChooseTells, ScheduleTells, WhichTells, ValuesTells}
+use Rattle.host.proofs.Codes.{Fits, Gave, Refused, done-code, ruled-code, stepper-code, counted-code, thread, count}
+use Rattle.host.proofs.Codes.{valued, tells, gave, refused}
 
 -- what the model can refuse fits into a number, and what the macros then read
 table-fits : {s : List ℕ} (q : Refusal) → Numbers.OfTable s q → Fits q
@@ -82,7 +85,12 @@ record Lies (s : List ℕ) (P : Program) : Type 0 where
 lies : {s : List ℕ} {P : Program} → Calls.read s ≡ Answer.given P → Lies s P
 lies {s} {P} e =
     let L = read-limits s P e in
-    record { functions = read-heading s P e .functions; nonempty = L .some; few = L .few; blocks = λ f g. each-at InFunction P f (L .functions) g .fewBlocks }
+    record {
+      functions = read-heading s P e .functions;
+      nonempty = L .some;
+      few = L .few;
+      blocks = λ f g. each-at InFunction P f (L .functions) g .fewBlocks;
+    }
 
 fault-fits : {s : List ℕ} {P : Program} → Lies s P → (q : Refusal) → Numbers.Faults P q → Fits q
 fault-fits h _ Numbers.Faults.main = ((lit≤ tt, lit≤ tt), lit≤ tt, lit≤ tt)
@@ -129,7 +137,8 @@ check-told (Numbers.OfCheck.table h) = inl (table-told h)
 check-told (Numbers.OfCheck.program e h) = inr (fault-told (lies e) h)
 
 -- the value 0, and answers that give nothing more
-module _ (a : Answer (Unit {0})) (G : Unit {0} → Type 0) (R : Refusal → Type 0) (fits : (q : Refusal) → R q → Fits q) (can : Can G R a) where
+module _ (a : Answer (Unit {0})) (G : Unit {0} → Type 0) (R : Refusal → Type 0) (fits : (q : Refusal) → R q → Fits q)
+    (can : Can G R a) where
   room : (u : Unit {0}) → G u → 0 < 2 ^ 32
   room u h = omega arith
 
@@ -187,11 +196,13 @@ start-law s ws r ws′ g =
     let a = Calls.start s ws .answer in
     let R = Numbers.OfStart s in
     let can = start-can s ws in
-    rw (g .number, g .words)
+    rw (g .number)
     (record {
       answers = done-in a Any R start-fits can;
-      given = λ e. let v = done-gave a Any R start-fits can e in (v .told, start-begins s ws (v .is) ∙ started-fresh);
-      refused = λ e. let q = done-refused a Any R start-fits can e in (rw (q .told) (start-told (q .has)), start-leaves s ws (q .is));
+      given = λ e. let v = done-gave a Any R start-fits can e in (v .told, g .words ∙ start-begins s ws (v .is) ∙ started-fresh);
+      refused = λ e.
+          let q = done-refused a Any R start-fits can e in
+          (rw (q .told) (start-told (q .has)), g .words ∙ start-leaves s ws (q .is));
     })
 
 rule-room : (kind rule : ℕ) → RuleOf kind rule → rule < 2 ^ 32
@@ -209,13 +220,13 @@ choose-law s ws kind thread r ws′ g =
     let R = Numbers.OfChoice s in
     let can = choose-can s ws kind thread in
     let room = rule-room kind in
-    rw (g .number, g .words)
+    rw (g .number)
     (record {
       answers = tells ruled-code (RuleOf kind) R room choice-fits a can ∙ valued-same a;
       given = λ e. let v = gave ruled-code (RuleOf kind) R room choice-fits a can e in rw (v .told) (v .has);
       refused = λ e.
           let q = refused ruled-code (RuleOf kind) R room choice-fits a can e in
-          (rw (q .told) (choice-told (q .has)), choose-leaves s ws kind thread (q .is));
+          (rw (q .told) (choice-told (q .has)), g .words ∙ choose-leaves s ws kind thread (q .is));
     })
 
 -- a list of choices
@@ -245,6 +256,10 @@ schedule-told (Numbers.OfSchedule.chosen w c there e) =
       stops = λ _. record { choice = c; there = there; again = λ q w′ g. g .number ∙ ap ruled e };
     }
 
+stops-same : {s : List ℕ} {ws ws′ : List ℤ} {cs : List Choice} {r made made′ : ℕ} → made′ ≡ made → ws′ ≡ ws → StopsAt s ws cs r made →
+    StopsAt s ws′ cs r made′
+stops-same m w h = rw (m, w) h
+
 pub schedule-law : (s : List ℕ) (ws : List ℤ) (cs : List Choice) (r made : ℕ) (ws′ : List ℤ) → Schedule s ws cs r made ws′ →
     ScheduleTells s ws cs r made ws′
 schedule-law s ws cs r made ws′ g =
@@ -254,13 +269,13 @@ schedule-law s ws cs r made ws′ g =
     let can = schedule-can s ws cs in
     let stopped : isGiven (done (c .answer)) ≡ false → Stopped s ws cs (done (c .answer)) (c .made) (c .after) =
     λ e. let q = done-refused (c .answer) G R schedule-fits can e in rw (q .told) (schedule-told (q .has)) in
-    rw (g .number, g .count, g .words)
+    rw (g .number)
     (record {
       answers = done-in (c .answer) G R schedule-fits can;
-      given = λ e. let v = done-gave (c .answer) G R schedule-fits can e in (v .told, v .has);
+      given = λ e. let v = done-gave (c .answer) G R schedule-fits can e in (v .told, g .count ∙ v .has);
       refused = λ e. stopped e .choice;
-      before = λ e. stopped e .before;
-      stops = λ e. stopped e .stops;
+      before = λ e l. let b = stopped e .before l in (g .count ∙ b .0, g .words ∙ b .1);
+      stops = λ e l. stops-same (g .count) (g .words) (stopped e .stops l);
     })
 
 -- which thread can step
@@ -351,13 +366,22 @@ values-law s ws vs r vs′ four g =
     let a = Calls.values s ws in
     let R = Numbers.OfLent s in
     let can = values-can s ws in
-    rw (g .number, g .words)
+    rw (g .number)
     (record {
-      answers = ap (λ (x : Answer ℕ). valuesIn x (written a vs)) (tells counted-code Four R four-room lent-fits a can) ∙ values-in vs four a R can;
+      answers =
+          ap (valuesIn (answerIn (counted a))) (g .words) ∙
+          ap (λ (x : Answer ℕ). valuesIn x (written a vs)) (tells counted-code Four R four-room lent-fits a can) ∙
+          values-in vs four a R can;
       given = λ e. let v = gave counted-code Four R four-room lent-fits a can e in rw (v .told) (four-or vs four (v .what) (v .has));
-      behind = λ e l. let v = gave counted-code Four R four-room lent-fits a can e in behind-at vs four a (v .what) (value (counted a)) (v .is) (v .told) l;
-      unwritten = λ e o. let v = gave counted-code Four R four-room lent-fits a can e in rw (v .is) (unwritten vs four (v .what) (v .has) (sym (v .told) ∙ o));
-      refused = λ e. let q = refused counted-code Four R four-room lent-fits a can e in (rw (q .told) (lent-told (q .has)), rw (q .is) (refused-written vs four (q .what)));
+      behind = λ e l.
+          let v = gave counted-code Four R four-room lent-fits a can e in
+          ap (drop (value (counted a))) (g .words) ∙ behind-at vs four a (v .what) (value (counted a)) (v .is) (v .told) l;
+      unwritten = λ e o.
+          let v = gave counted-code Four R four-room lent-fits a can e in
+          g .words ∙ ap (λ x. written x vs) (v .is) ∙ unwritten vs four (v .what) (v .has) (sym (v .told) ∙ o);
+      refused = λ e.
+          let q = refused counted-code Four R four-room lent-fits a can e in
+          (rw (q .told) (lent-told (q .has)), g .words ∙ ap (λ x. written x vs) (q .is) ∙ refused-written vs four (q .what));
     })
 
 -- all of them

@@ -15,7 +15,9 @@ unfolding refusalIn numberOf
 refusal-number r = go (eqb (number r) No.form) (leb No.main (number r) && leb (number r) No.nesting) refl
   where
     go : (b c : Bool) → eqb (number r) No.form ≡ b →
-        numberOf (cond b (Refusal.byte (place r)) (cond c (Refusal.fault (number r) (function r) (block r)) (Refusal.plain (number r)))) ≡ number r
+        numberOf
+        (cond b (Refusal.byte (place r)) (cond c (Refusal.fault (number r) (function r) (block r)) (Refusal.plain (number r)))) ≡
+        number r
     go true c e = sym (eqb-true (number r) No.form e)
     go false true e = refl
     go false false e = refl
@@ -33,7 +35,8 @@ module _ (r : ℕ) where
   unfolding answerIn
   read-given {v} e = go (isGiven r) refl e
     where
-      go : (b : Bool) → isGiven r ≡ b → cond b (Answer.given (value r)) (Answer.refused (refusalIn r)) ≡ Answer.given v → (isGiven r ≡ true) × (value r ≡ v)
+      go : (b : Bool) → isGiven r ≡ b → cond b (Answer.given (value r)) (Answer.refused (refusalIn r)) ≡ Answer.given v →
+          (isGiven r ≡ true) × (value r ≡ v)
       go true p e = (p, given-injective e)
       go false p e = refused-given e
 

@@ -1,14 +1,14 @@
 -- Demand 3 of the exported functions, from demand 3 of the model and the laws of the exports.
-use Prim.Native.Nat.{ℕ, zero, suc, _≤_, _<_}
+use Prim.Native.Nat.{ℕ, _≤_}
 use mathlib.Core.Path.{_≡_, refl, sym, _∙_, ap, subst}
 use mathlib.Core.Logic.{_≢_, _⊎_, inl, inr}
-use mathlib.Core.Bool.{Bool, true, false, cond}
+use mathlib.Core.Bool.{Bool, true, false}
 use mathlib.Core.Option.{Option, none, some}
 use mathlib.Core.List.{List, [], _∷_, _++_, append-assoc}
 use native.Mathlib.Omega.{arith}
 use lib.Dec.{eqb, lit≤}
 use lib.IntN.{ℤ}
-use lib.ListN.{length, getD, getElem?}
+use lib.ListN.{length}
 use Rattle.model.specs.Numbers as No
 use Rattle.model.specs.Numbers.{Within}
 use Rattle.model.specs.Answers.{Refusal, Answer, numberOf, with}
@@ -18,22 +18,22 @@ use Rattle.model.specs.Pool.{Pool, wordsOf}
 use Rattle.model.specs.Rules.{Result, choice, mainValues}
 use Rattle.model.specs.Calls as Calls
 use Rattle.model.specs.Calls.{Called, Choice, Lent, lent}
-use Rattle.model.proofs.Facts.{ne-eqb, eq-eqb, each-left, each-right, some-injective, given-injective, refused-given}
+use Rattle.model.proofs.Facts.{ne-eqb, each-left, each-right, some-injective, refused-given}
 use Rattle.model.proofs.Guarantees.{read-limits}
 use Rattle.model.proofs.Words.{lent-words, lent-given}
 use Rattle.model.proofs.Kept.{OnSome, choice-kept, choose-lent}
 use Rattle.model.proofs.Numbers as Numbers
 use Rattle.model.proofs.Numbers.{read-heading, steps-there, step-there, values-can}
 use Rattle.safety.specs.NeverJams as Model
-use Rattle.safety.specs.NeverJams.{Put, left, finally, whileGiven, ofSchedule, ofCall, choices}
+use Rattle.safety.specs.NeverJams.{left, finally, whileGiven, ofSchedule, ofCall, choices}
 use Rattle.safety.proofs.Theorem.{demand3, now, always-pool, waiting-moves}
 use Rattle.host.specs.Macros.{isGiven, value, number, poolWords, step, noThread}
-use Rattle.host.specs.Exports.{counted}
-use Rattle.host.specs.Contracts.{Check, Start, Choose, Schedule, Which, Values}
-use Rattle.host.specs.Laws.{refusalIn, answerIn, threadIn, OfChoice}
-use Rattle.host.specs.Sessions.{Call, Made, Session, Unstuck, Answered, Returned, CanStep, OutOfFrames, Stands, Safe, NeverJams, Demand3}
+use Rattle.host.specs.Contracts.{Choose, Schedule, Which, Values}
+use Rattle.host.specs.Laws.{refusalIn, threadIn, OfChoice}
+use Rattle.host.specs.Sessions.{Call, Made, Session, Unstuck, Answered, Returned, CanStep, OutOfFrames, Stands, Safe, Demand3}
 use Rattle.host.proofs.Codes.{counted-code, count, is-given, plain-in}
-use Rattle.host.proofs.Macros.{refusal-number, given-read, refused-read, read-given, read-refused, done-read, stopped-read, read-done}
+use Rattle.host.proofs.Macros.{refusal-number, given-read, refused-read, read-given, read-refused, done-read}
+use Rattle.host.proofs.Macros.{stopped-read, read-done}
 use Rattle.host.proofs.Laws.{Four, four-room, lent-fits, check-law, start-law, choose-law, schedule-law, which-law}
 
 -- calls behind calls
@@ -53,7 +53,8 @@ abbrev Free : ℕ → Type 0
 Free n = (No.kind ≤ n) × (n ≢ No.stuck)
 
 -- where each choice of a list is answered well, so is the list
-run-answered : (s : List ℕ) (P : Program) (p : Pool) (cs : List Choice) (ws : List ℤ) → lent s ws ≡ Answer.given (record { table = P; pool = p }) →
+run-answered : (s : List ℕ) (P : Program) (p : Pool) (cs : List Choice) (ws : List ℤ) →
+    lent s ws ≡ Answer.given (record { table = P; pool = p }) →
     Each (Model.Answered s) (ofSchedule s ws cs) → OnSome Free (Calls.run P p cs .refusal)
 unfolding Calls.run Calls.goOn Calls.made ofSchedule whileGiven Model.Answered numberOf
 run-answered s P p [] ws e h = tt
@@ -63,23 +64,26 @@ run-answered s P p (c ∷ cs) ws e h =
     chosen : (x : Result) → choice P p (c .kind) (c .thread) ≡ x → Calls.choose s ws (c .kind) (c .thread) ≡ Calls.made ws x
     chosen x q = choose-lent s ws (c .kind) (c .thread) e ∙ ap (Calls.made ws) q
 
-    go : (x : Result) → choice P p (c .kind) (c .thread) ≡ x → Model.Answered s (record { words = ws; kind = c .kind; thread = c .thread }) →
+    go : (x : Result) → choice P p (c .kind) (c .thread) ≡ x →
+        Model.Answered s (record { words = ws; kind = c .kind; thread = c .thread }) →
         Each (Model.Answered s)
         (whileGiven (Calls.choose s ws (c .kind) (c .thread) .answer) (ofSchedule s (Calls.choose s ws (c .kind) (c .thread) .after) cs)) →
         ((p′ : Pool) (ws′ : List ℤ) → lent s ws′ ≡ Answer.given (record { table = P; pool = p′ }) →
-            Each (Model.Answered s) (ofSchedule s ws′ cs) → OnSome Free (Calls.run P p′ cs .refusal)) →
+        Each (Model.Answered s) (ofSchedule s ws′ cs) → OnSome Free (Calls.run P p′ cs .refusal)) →
         OnSome Free (Calls.goOn p x (λ p′. Calls.run P p′ cs) .refusal)
     go (Result.made rule p′) q a b k =
         let g = lent-given s ws (record { table = P; pool = p }) e in
         let v = choice-kept P (read-limits s P (g .reads)) p p′ (c .kind) (c .thread) rule (g .valid) q in
         k p′ (wordsOf p′) (lent-words s P p′ (g .reads) v)
-        (subst (λ (d : Called ℕ). Each (Model.Answered s) (whileGiven (d .answer) (ofSchedule s (d .after) cs))) (chosen (Result.made rule p′) q) b)
+        (subst (λ (d : Called ℕ). Each (Model.Answered s) (whileGiven (d .answer) (ofSchedule s (d .after) cs)))
+        (chosen (Result.made rule p′) q) b)
     go (Result.refused n) q a b k = a (Refusal.plain n) (ap (λ (d : Called ℕ). d .answer) (chosen (Result.refused n) q))
 
 schedule-answered : (s : List ℕ) (cs : List Choice) (ws : List ℤ) (l : Lent) → lent s ws ≡ Answer.given l →
     Each (Model.Answered s) (ofSchedule s ws cs) → {q : Refusal} → Calls.schedule s ws cs .answer ≡ Answer.refused q → Free (numberOf q)
 unfolding Calls.schedule Calls.scheduled Calls.reported Calls.stopped numberOf
-schedule-answered s cs ws l e h {q} a = go (Calls.run (l .table) (l .pool) cs .refusal) (run-answered s (l .table) (l .pool) cs ws e h) (rw e at a)
+schedule-answered s cs ws l e h {q} a =
+    go (Calls.run (l .table) (l .pool) cs .refusal) (run-answered s (l .table) (l .pool) cs ws e h) (rw e at a)
   where
     go : (o : Option ℕ) → OnSome Free o → Calls.stopped o ≡ Answer.refused q → Free (numberOf q)
     go none h a = refused-given (sym a)
@@ -102,12 +106,15 @@ module _ (s : List ℕ) (ws : List ℤ) (h : Calls.check s ≡ Answer.given tt) 
         Model.CanStep s w ⊎ Model.OutOfFrames s w
     reached-waiting i e = go (rw (← g .is) at e)
       where
-        go : Calls.choose s (now s ws (g .calls)) 0 i .answer ≡ Answer.refused (Refusal.plain No.waits) → Model.CanStep s w ⊎ Model.OutOfFrames s w
+        go : Calls.choose s (now s ws (g .calls)) 0 i .answer ≡ Answer.refused (Refusal.plain No.waits) →
+            Model.CanStep s w ⊎ Model.OutOfFrames s w
         go e = rw (← g .is) (waiting-moves s ws h n (g .calls) i e)
 
     reached-left : (c : Model.Call) → Reached (left s w c)
     unfolding finally
-    reached-left c = record { calls = g .calls ++ (c ∷ []); is = finally-append s (Calls.start s ws .after) (g .calls) (c ∷ []) ∙ ap (λ v. left s v c) (g .is) }
+    reached-left c =
+        let e = finally-append s (Calls.start s ws .after) (g .calls) (c ∷ []) in
+        record { calls = g .calls ++ (c ∷ []); is = e ∙ ap (λ v. left s v c) (g .is) }
 
     reached-answered : (c : Model.Call) → Each (Model.Answered s) (ofCall s w c)
     unfolding choices
@@ -118,7 +125,8 @@ module _ (s : List ℕ) (ws : List ℤ) (h : Calls.check s ≡ Answer.given tt) 
         rw (← g .is) (each-left (Model.Answered s) (ofCall s (now s ws (g .calls)) c) [] last)
 
 -- a refusal of a choice, read by the macros
-unstuck : {s : List ℕ} (r : ℕ) → OfChoice s r → Free (numberOf (refusalIn r)) → Within No.kind No.threads (number r) × (number r ≢ No.stuck)
+unstuck : {s : List ℕ} (r : ℕ) → OfChoice s r → Free (numberOf (refusalIn r)) →
+    Within No.kind No.threads (number r) × (number r ≢ No.stuck)
 unstuck {s} r c f = go c (rw (refusal-number r) at f)
   where
     go : OfChoice s r → Free (number r) → Within No.kind No.threads (number r) × (number r ≢ No.stuck)
@@ -214,7 +222,9 @@ module _ (s : List ℕ) (w : List ℤ) (lends : (l : Lent) × (lent s w ≡ Answ
   unfolding Calls.Which threadIn
   somebody r m e q w′ c =
       let p : eqb (value r) noThread ≡ false = ne-eqb (value r) noThread e in
-      let right : Calls.Which s w (Answer.given (some (value r))) = rw (given-read r (which-given r m), p) at (which-law s w r m .answers) in
+      let right : Calls.Which s w (Answer.given (some (value r))) =
+      rw (given-read r (which-given r m), p) at (which-law s w r m .answers)
+      in
       let t = choose-law s w step (value r) q w′ c in
       let g = read-given q (t .answers ∙ right .1) .0 in
       (g, ordinary (t .given g))
@@ -227,7 +237,8 @@ module _ (s : List ℕ) (w : List ℤ) (lends : (l : Lent) × (lent s w ≡ Answ
   waits : (thread r : ℕ) (w′ : List ℤ) → Choose s w step thread r w′ → isGiven r ≡ false → number r ≡ No.waits →
       Calls.choose s w 0 thread .answer ≡ Answer.refused (Refusal.plain No.waits)
   waits thread r w′ m e i =
-      sym (choose-law s w step thread r w′ m .answers) ∙ refused-read r e ∙ ap Answer.refused (plain-in r No.waits i (inr (lit≤ tt, lit≤ tt)))
+      sym (choose-law s w step thread r w′ m .answers) ∙ refused-read r e ∙
+      ap Answer.refused (plain-in r No.waits i (inr (lit≤ tt, lit≤ tt)))
 
   moves : Model.CanStep s w ⊎ Model.OutOfFrames s w → CanStep s w ⊎ OutOfFrames s w
   moves (inl c) = inl (can-step c)

@@ -13,26 +13,26 @@ use lib.IntN.{ℤ, pos}
 use lib.ListN.{length, getD, getElem?}
 use Rattle.model.specs.Numbers as No
 use Rattle.model.specs.Numbers.{Within, RuleOf}
-use Rattle.model.specs.Answers.{Refusal, Answer, with, outcome}
+use Rattle.model.specs.Answers.{Refusal, Answer, with}
 use Rattle.model.specs.Lists.{Each, equal, unsnoc}
 use Rattle.model.specs.Values.{same}
-use Rattle.model.specs.Syntax.{Expression, Statement, Transfer, Head, Block, SpawnCall, Function, Program}
+use Rattle.model.specs.Syntax.{Statement, Transfer, Block, Function, Program}
 use Rattle.model.specs.Read as Read
 use Rattle.model.specs.Read.{Parsed, Parser, _>>=_, byte, many, counted, pick, read}
-use Rattle.model.specs.Tests.{Tests, _then_, or, failed, ofGiven, ofEach, fault}
+use Rattle.model.specs.Tests.{Tests, _then_, or, ofGiven, ofEach, fault}
 use Rattle.model.specs.WellFormed.{Env, env}
 use Rattle.model.specs.Check as Check
 use Rattle.model.specs.Check.{Placed, nowhere, at, firstFault, judge}
-use Rattle.model.specs.Limits.{Arguments, InTransfer, InBlock, InFunction, Limits}
+use Rattle.model.specs.Limits.{InTransfer, InBlock, InFunction, Limits}
 use Rattle.model.specs.Pool
 use Rattle.model.specs.Pool.{Frame, Thread, Pool, mostFrames, mostThreads, poolWords, blockIn, blockOf, functionOf, arePool, poolOf}
-use Rattle.model.specs.Frames.{when, look, lookAll, eval, deque, enter, callee}
+use Rattle.model.specs.Frames.{look, lookAll, eval, deque, enter, callee}
 use Rattle.model.specs.Rules
 use Rattle.model.specs.Rules.{Act, by, acts, act, Result, choice, mainValues}
 use Rattle.model.specs.Calls
 use Rattle.model.specs.Calls.{Lent, lent, check, Choice, Steps, Which}
-use Rattle.model.proofs.Facts.{refused-given, none-some, some-injective, and-left, and-right, leb-true, eqb-true, ltb-true, each-at, at-below}
-use Rattle.model.proofs.Reading.{next-ok, byte-ok, many-item, many-length, ok-value, ok-offset}
+use Rattle.model.proofs.Facts.{refused-given, none-some, and-left, and-right, leb-true, ltb-true, each-at, at-below}
+use Rattle.model.proofs.Reading.{next-ok, byte-ok, many-item, many-length, ok-offset}
 use Rattle.model.proofs.Guarantees
 use Rattle.model.proofs.Guarantees.{Gives, gives-pure, gives-then, gives-byte, gives-many, reads, read-limits}
 use Rattle.model.proofs.Valid.{pool-facts}
@@ -54,8 +54,8 @@ abbrev pub Any : {A : Type 0} → A → Type 0
 Any a = Unit {0}
 
 module _ {A B : Type 0} (H : B → Type 0) {R S : Refusal → Type 0} where
-  can-with : (a : Answer A) (k : A → Answer B) → Can Any R a → ((q : Refusal) → R q → S q) → ((x : A) → a ≡ Answer.given x → Can H S (k x)) →
-      Can H S (with a k)
+  can-with : (a : Answer A) (k : A → Answer B) → Can Any R a → ((q : Refusal) → R q → S q) →
+      ((x : A) → a ≡ Answer.given x → Can H S (k x)) → Can H S (with a k)
   unfolding with
   can-with (Answer.given x) k h f g = g x refl
   can-with (Answer.refused q) k h f g = f q h
@@ -168,11 +168,15 @@ inside-transfer =
       ),
     )
 
+inside-head : Inside Read.head
+unfolding Read.head
+inside-head =
+    inside-then inside-arguments λ x̄. inside-then inside-half λ Γ. inside-then (inside-counted inside-name 4) λ ρ. inside-pure _
+
 inside-block : Inside Read.block
-unfolding Read.block Read.head
+unfolding Read.block
 inside-block =
-    inside-then (inside-then inside-arguments λ x̄. inside-then inside-half λ Γ. inside-then (inside-counted inside-name 4) λ ρ. inside-pure _) λ h.
-    inside-then (inside-counted inside-statement 32) λ c. inside-then inside-transfer λ t. inside-pure _
+    inside-then inside-head λ h. inside-then (inside-counted inside-statement 32) λ c. inside-then inside-transfer λ t. inside-pure _
 
 inside-spawn : Inside Read.spawnCall
 unfolding Read.spawnCall
@@ -212,7 +216,9 @@ read-can s = go (Read.sized s) (eqb (getD s 4 0) 1) refl
         left false = OfTable.form l w
 
     go : (b c : Bool) → Read.sized s ≡ b → Can Any (OfTable s)
-        (cond b (cond c (Read.whole s (Read.program s 5)) (Answer.refused (Refusal.plain No.version))) (Answer.refused (Refusal.plain No.size)))
+        (cond b
+        (cond c (Read.whole s (Read.program s 5)) (Answer.refused (Refusal.plain No.version)))
+        (Answer.refused (Refusal.plain No.size)))
     go true true p = let w = sized-within s p in ends (Read.program s 5) (inside-program .stays s 5 (omega arith)) w
     go true false p = OfTable.version
     go false c p = OfTable.size
@@ -224,7 +230,8 @@ pub record Heading (s : List ℕ) (P : Program) : Type 0 where
   pub first : getElem? P 0 ≡ some main
   pub returns : main .signature .returns ≡ getD s 7 0
 
-function-returns : (s : List ℕ) (k : ℕ) {F : Function} {j : ℕ} → Read.function s k ≡ Parsed.ok F j → F .signature .returns ≡ getD s (k + 1) 0
+function-returns : (s : List ℕ) (k : ℕ) {F : Function} {j : ℕ} → Read.function s k ≡ Parsed.ok F j →
+    F .signature .returns ≡ getD s (k + 1) 0
 unfolding Read.function
 function-returns s k {F} {j} e =
     let n = next-ok (byte 0 8 s k) _ e in
@@ -233,12 +240,14 @@ function-returns s k {F} {j} e =
     let q = byte-ok 0 4 s (n .between) (r .value) (r .between) (r .first) in
     rest (n .value) (r .value) .gives s (r .between) F j (r .then) ∙ sym (q .is) ∙ ap (λ (i : ℕ). getD s i 0) (p .behind)
   where
-    rest : (n r : ℕ) → Gives (do
-      b ← byte 1 32
-      c ← byte 0 8
-      π̄ ← many Read.spawnCall c
-      B̄ ← many Read.block b
-      Read.pure (record { signature = record { parameters = n; returns = r }; spawns = π̄; blocks = B̄ })) (λ (F : Function). F .signature .returns ≡ r)
+    rest : (n r : ℕ) → Gives
+        (do
+          b ← byte 1 32
+          c ← byte 0 8
+          π̄ ← many Read.spawnCall c
+          B̄ ← many Read.block b
+          Read.pure (record { signature = record { parameters = n; returns = r }; spawns = π̄; blocks = B̄ }))
+        (λ (F : Function). F .signature .returns ≡ r)
     rest n r =
         gives-then (gives-byte 1 32) λ b _. gives-then (gives-byte 0 8) λ c _. gives-then (gives-many Guarantees.spawnCall c) λ π̄ _.
         gives-then (gives-many Guarantees.block b) λ B̄ _. gives-pure _ refl
@@ -319,18 +328,24 @@ fresh-only Γ (x ∷ x̄) = (refl, fresh-only _ x̄)
 
 block-only : (E : Env) (b : ℕ) (B : Block) → Only Blocks (Check.block E b B)
 unfolding Check.block Check.nested
-block-only E b B = (refl, (fresh-only _ (B .head .parameters), (λ π. (refl, λ S. refl), code-only E _ (B .head .nesting) (B .code) (B .transfer))))
+block-only E b B =
+    (refl, (fresh-only _ (B .head .parameters), (λ π. (refl, λ S. refl), code-only E _ (B .head .nesting) (B .code) (B .transfer))))
 
 -- a program's faults: main's 4; a spawn call's 6 or 9, at a function; a block's 5 to 11, at a function and a block of it
 pub data Faults (P : Program) : Refusal → Type 0 where
   main : Faults P (Refusal.fault No.main 0 nowhere)
   spawn : {n f : ℕ} → f < length P → (n ≡ No.missing) ⊎ (n ≡ No.count) → Faults P (Refusal.fault n f nowhere)
-  block : {n f b : ℕ} {F : Function} → getElem? P f ≡ some F → b < length (F .blocks) → Within No.entry No.nesting n → Faults P (Refusal.fault n f b)
+  block : {n f b : ℕ} {F : Function} → getElem? P f ≡ some F → b < length (F .blocks) → Within No.entry No.nesting n →
+      Faults P (Refusal.fault n f b)
 
+-- every fault of placed tests has Q; then so has the first
 module _ (Q : Refusal → Type 0) where
+  abbrev In : Placed → ℕ → Type 0
+  In p n = Q (Refusal.fault n (p .function) (p .block))
+
   abbrev AllIn : List Placed → Type 0
   AllIn [] = Unit {0}
-  AllIn (p ∷ ps) = Only (λ n. Q (Refusal.fault n (p .function) (p .block))) (p .tests) × AllIn ps
+  AllIn (p ∷ ps) = Only (In p) (p .tests) × AllIn ps
 
   in-append : (ps qs : List Placed) → AllIn ps → AllIn qs → AllIn (ps ++ qs)
   in-append [] qs h g = g
@@ -339,15 +354,16 @@ module _ (Q : Refusal → Type 0) where
   first-in : (ps : List Placed) → AllIn ps → Can Any Q (firstFault ps)
   unfolding firstFault at
   first-in [] h = tt
-  first-in (p ∷ ps) h = go (fault (p .tests)) (only-fault (λ n. Q (Refusal.fault n (p .function) (p .block))) (p .tests) (h .0)) (first-in ps (h .1))
+  first-in (p ∷ ps) h = go (fault (p .tests)) (only-fault (In p) (p .tests) (h .0)) (first-in ps (h .1))
     where
-      go : (o : Option ℕ) → OnSome (λ n. Q (Refusal.fault n (p .function) (p .block))) o → Can Any Q (firstFault ps) → Can Any Q (at p o (firstFault ps))
+      go : (o : Option ℕ) → OnSome (In p) o → Can Any Q (firstFault ps) → Can Any Q (at p o (firstFault ps))
       go none h k = k
       go (some n) h k = h
 
 module _ (P : Program) where
   blocks-in : (E : Env) (f b : ℕ) (B̄ : List Block) →
-      ((c n : ℕ) → c < b + length B̄ → Within No.entry No.nesting n → Faults P (Refusal.fault n f c)) → AllIn (Faults P) (Check.ofBlocks E f b B̄)
+      ((c n : ℕ) → c < b + length B̄ → Within No.entry No.nesting n → Faults P (Refusal.fault n f c)) →
+      AllIn (Faults P) (Check.ofBlocks E f b B̄)
   unfolding Check.ofBlocks
   blocks-in E f b [] h = tt
   blocks-in E f b (B ∷ B̄) h = (
@@ -489,7 +505,8 @@ promote-results P room t ts = go room (Rules.oldest (t .newest) (t .older))
     go true (some p) = made (p .parent) (Rules.child P (p .holder) (p .call))
 
 module _ (f : Thread → List Thread → Result) where
-  thread-results : (lo hi : ℕ) → ((t : Thread) (ts : List Thread) → Results lo hi (f t ts)) → (p : Pool) (i : ℕ) → Results lo hi (Rules.onThread f p i)
+  thread-results : (lo hi : ℕ) → ((t : Thread) (ts : List Thread) → Results lo hi (f t ts)) → (p : Pool) (i : ℕ) →
+      Results lo hi (Rules.onThread f p i)
   unfolding Rules.onThread Rules.behind
   thread-results lo hi h [] i = refuses No.thread refl
   thread-results lo hi h (t ∷ ts) zero = h t ts
@@ -513,13 +530,22 @@ ChoiceOf kind (Result.refused n) = Within No.kind No.threads n
 
 choice-of : (P : Program) → Limits P → (p : Pool) (kind i : ℕ) → ChoiceOf kind (choice P p kind i)
 unfolding choice Rules.step
-choice-of P L p zero i = go (Rules.onThread (Rules.step P) p i) (thread-results (Rules.step P) No.stmt No.prom (λ t ts. apply-results P (t .older) ts _ (act-acts L (t .newest))) p i)
+choice-of P L p zero i = go (Rules.onThread f p i) (thread-results f No.stmt No.prom each p i)
   where
+    f : Thread → List Thread → Result
+    f = Rules.step P
+
+    each : (t : Thread) (ts : List Thread) → Results No.stmt No.prom (Rules.step P t ts)
+    each t ts = apply-results P (t .older) ts _ (act-acts L (t .newest))
+
     go : (x : Result) → Results No.stmt No.prom x → ChoiceOf 0 x
     go (Result.made rule q) h = inl (refl, h)
     go (Result.refused n) h = h
-choice-of P L p (suc zero) i = go (Rules.onThread (Rules.promote P (ltb (length p) mostThreads)) p i) (thread-results (Rules.promote P (ltb (length p) mostThreads)) No.promote No.promote (promote-results P _) p i)
+choice-of P L p (suc zero) i = go (Rules.onThread f p i) (thread-results f No.promote No.promote (promote-results P _) p i)
   where
+    f : Thread → List Thread → Result
+    f = Rules.promote P (ltb (length p) mostThreads)
+
     go : (x : Result) → Results No.promote No.promote x → ChoiceOf 1 x
     go (Result.made rule q) h = inr (refl, omega arith)
     go (Result.refused n) h = h
@@ -572,7 +598,8 @@ module _ (s : List ℕ) (ws : List ℤ) where
   unfolding Calls.valid
   valid-can P = go (arePool P ws)
     where
-      go : (b : Bool) → Can {A = Lent} Any (OfLent s) (cond b (Answer.given (record { table = P; pool = poolOf ws })) (Answer.refused (Refusal.plain No.pool)))
+      go : (b : Bool) → Can {A = Lent} Any (OfLent s)
+          (cond b (Answer.given (record { table = P; pool = poolOf ws })) (Answer.refused (Refusal.plain No.pool)))
       go true = tt
       go false = OfLent.pool
 
@@ -599,7 +626,9 @@ module _ (s : List ℕ) (ws : List ℤ) where
   -- at most four values
   pub values-can : Can (OnSome (λ v̄. length v̄ ≤ 4)) (OfLent s) (Calls.values s ws)
   unfolding Calls.values mainValues Rules.ended Rules.returned
-  values-can = can-with (OnSome (λ v̄. length v̄ ≤ 4)) (lent s ws) _ lent-can (λ q h. h) λ l e. main (l .table) (read-limits s (l .table) (lent-given s ws l e .reads)) (l .pool)
+  values-can =
+      can-with (OnSome (λ v̄. length v̄ ≤ 4)) (lent s ws) _ lent-can (λ q h. h) λ l e.
+      main (l .table) (read-limits s (l .table) (lent-given s ws l e .reads)) (l .pool)
     where
       ended : (K : List Frame) (a : Act) → Acts a → OnSome (λ v̄. length v̄ ≤ 4) (Rules.returned K a)
       ended [] (Act.refuse n) h = tt
@@ -614,7 +643,8 @@ module _ (s : List ℕ) (ws : List ℤ) where
       main P L (t ∷ ts) = ended (t .older) (act P (t .newest)) (act-acts L (t .newest))
 
   -- a step that is not answered 15 is one of a thread of the pool
-  pub step-there : (i : ℕ) (l : Lent) → lent s ws ≡ Answer.given l → Calls.choose s ws 0 i .answer ≢ Answer.refused (Refusal.plain No.thread) → i < mostThreads
+  pub step-there : (i : ℕ) (l : Lent) → lent s ws ≡ Answer.given l →
+      Calls.choose s ws 0 i .answer ≢ Answer.refused (Refusal.plain No.thread) → i < mostThreads
   unfolding Calls.choose Calls.chosen Calls.made choice
   step-there i l e h =
       let few = pool-facts (l .table) (l .pool) (lent-given s ws l e .valid) .few in
@@ -670,15 +700,15 @@ pub schedule-can : (s : List ℕ) (ws : List ℤ) (cs : List Choice) → Schedul
 unfolding Calls.schedule Calls.scheduled Calls.reported Calls.stopped Calls.made
 schedule-can s ws cs = go (lent s ws) refl (lent-can s ws)
   where
-    on : (P : Program) (r : Calls.Ran) → read s ≡ Answer.given P → Pool.isPool P (r .pool) ≡ true → RanOf P cs (r .made) (r .refusal) (r .pool) →
-        ScheduleCan s ws cs (Calls.reported r)
+    on : (P : Program) (r : Calls.Ran) → read s ≡ Answer.given P → Pool.isPool P (r .pool) ≡ true →
+        RanOf P cs (r .made) (r .refusal) (r .pool) → ScheduleCan s ws cs (Calls.reported r)
     on P r e v h = ended (r .refusal) h
       where
         ended : (o : Option ℕ) → RanOf P cs (r .made) o (r .pool) →
             Can {A = Unit {0}} (λ _. r .made ≡ length cs) (λ q. OfSchedule s ws cs q (r .made) (Pool.wordsOf (r .pool))) (Calls.stopped o)
         ended none h = h
         ended (some n) (c, there, q) =
-            let w : ChoiceOf (c .kind) (Result.refused n) = subst (ChoiceOf (c .kind)) q (choice-of P (read-limits s P e) (r .pool) (c .kind) (c .thread)) in
+            let w : Within No.kind No.threads n = rw q at (choice-of P (read-limits s P e) (r .pool) (c .kind) (c .thread)) in
             let m = choose-lent s (Pool.wordsOf (r .pool)) (c .kind) (c .thread) (lent-words s P (r .pool) e v) in
             OfSchedule.chosen w c there (ap (λ (d : Calls.Called ℕ). d .answer) (m ∙ ap (Calls.made (Pool.wordsOf (r .pool))) q))
 
@@ -708,7 +738,8 @@ module _ (s : List ℕ) (ws : List ℤ) where
       go (Answer.given v) e = refused-given (sym e)
       go (Answer.refused q) e = refl
 
-  pub choose-leaves : (kind i : ℕ) {q : Refusal} → Calls.choose s ws kind i .answer ≡ Answer.refused q → Calls.choose s ws kind i .after ≡ ws
+  pub choose-leaves : (kind i : ℕ) {q : Refusal} → Calls.choose s ws kind i .answer ≡ Answer.refused q →
+      Calls.choose s ws kind i .after ≡ ws
   unfolding Calls.choose Calls.chosen Calls.made
   choose-leaves kind i {q} e = go (lent s ws) e
     where
