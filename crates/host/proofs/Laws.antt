@@ -196,13 +196,14 @@ start-law s ws r ws′ g =
     let a = Calls.start s ws .answer in
     let R = Numbers.OfStart s in
     let can = start-can s ws in
+    let words : ws′ ≡ Calls.start s ws .after = g .words in
     rw (g .number)
     (record {
       answers = done-in a Any R start-fits can;
-      given = λ e. let v = done-gave a Any R start-fits can e in (v .told, g .words ∙ start-begins s ws (v .is) ∙ started-fresh);
+      given = λ e. let v = done-gave a Any R start-fits can e in (v .told, words ∙ start-begins s ws (v .is) ∙ started-fresh);
       refused = λ e.
           let q = done-refused a Any R start-fits can e in
-          (rw (q .told) (start-told (q .has)), g .words ∙ start-leaves s ws (q .is));
+          (rw (q .told) (start-told (q .has)), words ∙ start-leaves s ws (q .is));
     })
 
 rule-room : (kind rule : ℕ) → RuleOf kind rule → rule < 2 ^ 32
@@ -220,13 +221,14 @@ choose-law s ws kind thread r ws′ g =
     let R = Numbers.OfChoice s in
     let can = choose-can s ws kind thread in
     let room = rule-room kind in
+    let words : ws′ ≡ Calls.choose s ws kind thread .after = g .words in
     rw (g .number)
     (record {
       answers = tells ruled-code (RuleOf kind) R room choice-fits a can ∙ valued-same a;
       given = λ e. let v = gave ruled-code (RuleOf kind) R room choice-fits a can e in rw (v .told) (v .has);
       refused = λ e.
           let q = refused ruled-code (RuleOf kind) R room choice-fits a can e in
-          (rw (q .told) (choice-told (q .has)), g .words ∙ choose-leaves s ws kind thread (q .is));
+          (rw (q .told) (choice-told (q .has)), words ∙ choose-leaves s ws kind thread (q .is));
     })
 
 -- a list of choices
@@ -267,6 +269,7 @@ schedule-law s ws cs r made ws′ g =
     let G : Unit {0} → Type 0 = λ u. c .made ≡ length cs in
     let R : Refusal → Type 0 = λ q. Numbers.OfSchedule s ws cs q (c .made) (c .after) in
     let can = schedule-can s ws cs in
+    let words : ws′ ≡ c .after = g .words in
     let stopped : isGiven (done (c .answer)) ≡ false → Stopped s ws cs (done (c .answer)) (c .made) (c .after) =
     λ e. let q = done-refused (c .answer) G R schedule-fits can e in rw (q .told) (schedule-told (q .has)) in
     rw (g .number)
@@ -274,8 +277,8 @@ schedule-law s ws cs r made ws′ g =
       answers = done-in (c .answer) G R schedule-fits can;
       given = λ e. let v = done-gave (c .answer) G R schedule-fits can e in (v .told, g .count ∙ v .has);
       refused = λ e. stopped e .choice;
-      before = λ e l. let b = stopped e .before l in (g .count ∙ b .0, g .words ∙ b .1);
-      stops = λ e l. stops-same (g .count) (g .words) (stopped e .stops l);
+      before = λ e l. let b = stopped e .before l in (g .count ∙ b .0, words ∙ b .1);
+      stops = λ e l. stops-same (g .count) words (stopped e .stops l);
     })
 
 -- which thread can step
@@ -330,18 +333,19 @@ over-drop [] vs = refl
 over-drop (v ∷ v̄) [] = refl
 over-drop (v ∷ v̄) (w ∷ vs) = over-drop v̄ vs
 
-module _ (vs : List ℤ) (four : length vs ≡ 4) where
-  values-in : (a : Answer (Option (List ℤ))) (R : Refusal → Type 0) → Can Four R a → valuesIn (valued count a) (written a vs) ≡ a
+four-or : (o : Option (List ℤ)) → Four o → (count o ≤ 4) ⊎ (count o ≡ 255)
+four-or none h = inr refl
+four-or (some v̄) h = inl h
+
+module _ (vs : List ℤ) where
+  values-in : (a : Answer (Option (List ℤ))) (R : Refusal → Type 0) → length vs ≡ 4 → Can Four R a →
+      valuesIn (valued count a) (written a vs) ≡ a
   unfolding valuesIn written
-  values-in (Answer.given none) R h = refl
-  values-in (Answer.given (some v̄)) R h =
+  values-in (Answer.given none) R four h = refl
+  values-in (Answer.given (some v̄)) R four h =
       let e : eqb (length v̄) 255 ≡ false = ne-eqb (length v̄) 255 (λ e. omega arith) in
       rw (e, over-take v̄ vs (omega arith))
-  values-in (Answer.refused q) R h = refl
-
-  four-or : (o : Option (List ℤ)) → Four o → (count o ≤ 4) ⊎ (count o ≡ 255)
-  four-or none h = inr refl
-  four-or (some v̄) h = inl h
+  values-in (Answer.refused q) R four h = refl
 
   behind : (o : Option (List ℤ)) → count o ≤ 4 → drop (count o) (written (Answer.given o) vs) ≡ drop (count o) vs
   unfolding written
@@ -366,22 +370,24 @@ values-law s ws vs r vs′ four g =
     let a = Calls.values s ws in
     let R = Numbers.OfLent s in
     let can = values-can s ws in
+    let words : vs′ ≡ written a vs = g .words in
+    let gave : isGiven (counted a) ≡ true → Gave count Four a (counted a) = gave counted-code Four R four-room lent-fits a can in
     rw (g .number)
     (record {
       answers =
-          ap (valuesIn (answerIn (counted a))) (g .words) ∙
+          ap (valuesIn (answerIn (counted a))) words ∙
           ap (λ (x : Answer ℕ). valuesIn x (written a vs)) (tells counted-code Four R four-room lent-fits a can) ∙
-          values-in vs four a R can;
-      given = λ e. let v = gave counted-code Four R four-room lent-fits a can e in rw (v .told) (four-or vs four (v .what) (v .has));
+          values-in vs a R four can;
+      given = λ e. let v = gave e in rw (v .told) (four-or (v .what) (v .has));
       behind = λ e l.
-          let v = gave counted-code Four R four-room lent-fits a can e in
-          ap (drop (value (counted a))) (g .words) ∙ behind-at vs four a (v .what) (value (counted a)) (v .is) (v .told) l;
+          let v = gave e in
+          ap (drop (value (counted a))) words ∙ behind-at vs a (v .what) (value (counted a)) (v .is) (v .told) l;
       unwritten = λ e o.
-          let v = gave counted-code Four R four-room lent-fits a can e in
-          g .words ∙ ap (λ x. written x vs) (v .is) ∙ unwritten vs four (v .what) (v .has) (sym (v .told) ∙ o);
+          let v = gave e in
+          words ∙ ap (λ x. written x vs) (v .is) ∙ unwritten vs (v .what) (v .has) (sym (v .told) ∙ o);
       refused = λ e.
           let q = refused counted-code Four R four-room lent-fits a can e in
-          (rw (q .told) (lent-told (q .has)), g .words ∙ ap (λ x. written x vs) (q .is) ∙ refused-written vs four (q .what));
+          (rw (q .told) (lent-told (q .has)), words ∙ ap (λ x. written x vs) (q .is) ∙ refused-written vs (q .what));
     })
 
 -- all of them

@@ -67,7 +67,7 @@ Stands s ws = Returned s ws ⊎ (CanStep s ws ⊎ OutOfFrames s ws)
 
 -- what is claimed of a session that left the words ws: how its calls were answered, and how the words stand. Of a call put next:
 -- where mezdaulk_which tells no thread, main has returned or a thread is out of frames; where it tells a thread, that thread's step
--- is made; and where a step is refused 17, another thread can step or is out of frames
+-- is made; and where a step is refused 17, some thread can step or is out of frames
 pub record Safe (s : List ℕ) (cs : List Call) (ws : List ℤ) : Type 0 where
   pub answered : Each Answered cs
   pub stands : Stands s ws
