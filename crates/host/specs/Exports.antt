@@ -61,7 +61,7 @@ pub record Values (a : Answer (Option (List ℤ))) (ws : List ℤ) (r : ℕ) (ws
   pub words : ws′ ≡ written a ws
 
 -- a list of choices: the number of its answer, how many were made, and the pool's words afterwards
-pub record Tells (c : Calls.Scheduled) (r made : ℕ) (ws : List ℤ) : Type 0 where
+pub record Tells (c : Calls.Scheduled) (r made : ℕ) (ws′ : List ℤ) : Type 0 where
   pub number : r ≡ done (c .answer)
   pub count : made ≡ c .made
-  pub words : ws ≡ c .after
+  pub words : ws′ ≡ c .after

@@ -1,1 +1,5 @@
 pub mod Exports
+pub mod Macros
+pub mod Contracts
+pub mod Laws
+pub mod Sessions

@@ -10,3 +10,4 @@ pub mod Valid
 pub mod Words
 pub mod Kept
 pub mod Schedules
+pub mod Numbers

@@ -1,6 +1,8 @@
 -- The numbers of document 01, each once, by name: what a call can refuse, and the rules of figure 3.
 -- Other files write them as No.stuck, No.goto.
-use Prim.Native.Nat.{ℕ}
+use Prim.Native.Nat.{ℕ, _≤_}
+use mathlib.Core.Path.{_≡_}
+use mathlib.Core.Logic.{_⊎_}
 
 -- the table (1 to 3)
 abbrev pub size : ℕ
@@ -99,3 +101,11 @@ prom = 9
 
 abbrev pub promote : ℕ
 promote = 10
+
+-- a number from lo to hi
+abbrev pub Within : ℕ → ℕ → ℕ → Type 0
+Within lo hi n = (lo ≤ n) × (n ≤ hi)
+
+-- a step makes one of the rules 1 to 9, a promotion rule 10, and no other kind of choice a rule
+abbrev pub RuleOf : ℕ → ℕ → Type 0
+RuleOf kind rule = ((kind ≡ 0) × Within stmt prom rule) ⊎ ((kind ≡ 1) × (rule ≡ promote))

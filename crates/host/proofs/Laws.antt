@@ -1,0 +1,404 @@
+-- The laws of specs/Laws: from the numbers that the model's calls can give, and what the macros read in them.
+use Prim.Native.Nat.{ℕ, _^_, _≤_, _<_}
+use mathlib.Core.Path.{_≡_, refl, sym, _∙_, ap}
+use mathlib.Core.Logic.{_⊎_, inl, inr}
+use mathlib.Core.Bool.{true, false}
+use mathlib.Core.Option.{Option, none, some}
+use mathlib.Core.List.{List, [], _∷_}
+use native.Mathlib.Omega.{arith}
+use lib.Dec.{eqb, lit≤}
+use lib.IntN.{ℤ}
+use lib.ListN.{length, getD, getElem?, take, drop}
+use Rattle.model.specs.Numbers as No
+use Rattle.model.specs.Numbers.{RuleOf}
+use Rattle.model.specs.Answers.{Refusal, Answer, outcome}
+use Rattle.model.specs.Syntax.{Function, Program}
+use Rattle.model.specs.Limits.{InFunction}
+use Rattle.model.specs.Lists.{pad, concat}
+use Rattle.model.specs.Sets.{below}
+use Rattle.model.specs.Pool.{wordsOfFrame, wordsOfThread, wordsOf, begin, started}
+use Rattle.model.specs.Calls as Calls
+use Rattle.model.specs.Calls.{Choice}
+use Rattle.model.proofs.Facts.{ne-eqb, each-at, at-below}
+use Rattle.model.proofs.Guarantees.{read-limits}
+use Rattle.model.proofs.Kept.{OnSome}
+use Rattle.model.proofs.Numbers as Numbers
+use Rattle.model.proofs.Numbers.{Can, Any, read-can, check-can, start-can, choose-can, schedule-can, which-can, values-can}
+use Rattle.model.proofs.Numbers.{read-heading, start-begins, start-leaves, choose-leaves}
+use Rattle.answers.specs.Coded.{codeOf}
+use Rattle.host.specs.Macros.{isGiven, value, number, block}
+use Rattle.host.specs.Exports.{done, ruled, stepperOf, counted, over, written}
+use Rattle.host.specs.Contracts.{Read, Check, Start, Choose, Schedule, Which, Values}
+use Rattle.host.specs.Laws as Laws
+use Rattle.host.specs.Laws.{answerIn, threadIn, valuesIn, fresh, Placed, OfTable, OfProgram, OfPool, OfChoice, StopsAt}
+use Rattle.host.specs.Laws.{ReadTells, CheckTells, StartTells, ChooseTells, ScheduleTells, WhichTells, ValuesTells}
+use Rattle.host.proofs.Codes.{Fits, Gave, Refused, done-code, ruled-code, stepper-code, counted-code, thread, count}
+use Rattle.host.proofs.Codes.{valued, tells, gave, refused}
+
+-- what the model can refuse fits into a number, and what the macros then read
+table-fits : {s : List ℕ} (q : Refusal) → Numbers.OfTable s q → Fits q
+table-fits _ Numbers.OfTable.size = inl (lit≤ tt, lit≤ tt)
+table-fits _ Numbers.OfTable.version = inl (lit≤ tt, lit≤ tt)
+table-fits _ (Numbers.OfTable.form l w) = omega arith
+
+table-told : {s : List ℕ} {q : Refusal} → Numbers.OfTable s q → OfTable s (codeOf q)
+table-told Numbers.OfTable.size = record { numbered = (lit≤ tt, lit≤ tt); placed = λ e. absurd (omega arith) }
+table-told Numbers.OfTable.version = record { numbered = (lit≤ tt, lit≤ tt); placed = λ e. absurd (omega arith) }
+table-told (Numbers.OfTable.form l w) = record { numbered = (omega arith, omega arith); placed = λ _. (omega arith, w) }
+
+start-fits : {s : List ℕ} (q : Refusal) → Numbers.OfStart s q → Fits q
+start-fits _ (Numbers.OfStart.table h) = table-fits _ h
+start-fits _ Numbers.OfStart.words = inr (lit≤ tt, lit≤ tt)
+
+start-told : {s : List ℕ} {q : Refusal} → Numbers.OfStart s q → OfTable s (codeOf q) ⊎ (number (codeOf q) ≡ No.words)
+start-told (Numbers.OfStart.table h) = inl (table-told h)
+start-told Numbers.OfStart.words = inr refl
+
+pub lent-fits : {s : List ℕ} (q : Refusal) → Numbers.OfLent s q → Fits q
+lent-fits _ (Numbers.OfLent.start h) = start-fits _ h
+lent-fits _ Numbers.OfLent.pool = inr (lit≤ tt, lit≤ tt)
+
+lent-told : {s : List ℕ} {q : Refusal} → Numbers.OfLent s q → OfPool s (codeOf q)
+lent-told (Numbers.OfLent.start (Numbers.OfStart.table h)) = inl (table-told h)
+lent-told (Numbers.OfLent.start Numbers.OfStart.words) = inr (lit≤ tt, lit≤ tt)
+lent-told Numbers.OfLent.pool = inr (lit≤ tt, lit≤ tt)
+
+choice-fits : {s : List ℕ} (q : Refusal) → Numbers.OfChoice s q → Fits q
+choice-fits _ (Numbers.OfChoice.lends h) = lent-fits _ h
+choice-fits _ (Numbers.OfChoice.chosen w) = inr (omega arith, omega arith)
+
+wider : {s : List ℕ} {r : ℕ} → OfPool s r → OfChoice s r
+wider (inl h) = inl h
+wider (inr h) = inr (h .0, omega arith)
+
+choice-told : {s : List ℕ} {q : Refusal} → Numbers.OfChoice s q → OfChoice s (codeOf q)
+choice-told (Numbers.OfChoice.lends h) = wider (lent-told h)
+choice-told (Numbers.OfChoice.chosen w) = inr (omega arith, omega arith)
+
+-- a fault's function and block are in the table
+record Lies (s : List ℕ) (P : Program) : Type 0 where
+  functions : length P ≡ getD s 5 0
+  nonempty : 1 ≤ length P
+  few : length P ≤ 16
+  blocks : (f : ℕ) {F : Function} → getElem? P f ≡ some F → length (F .blocks) ≤ 32
+
+lies : {s : List ℕ} {P : Program} → Calls.read s ≡ Answer.given P → Lies s P
+lies {s} {P} e =
+    let L = read-limits s P e in
+    record {
+      functions = read-heading s P e .functions;
+      nonempty = L .some;
+      few = L .few;
+      blocks = λ f g. each-at InFunction P f (L .functions) g .fewBlocks;
+    }
+
+fault-fits : {s : List ℕ} {P : Program} → Lies s P → (q : Refusal) → Numbers.Faults P q → Fits q
+fault-fits h _ Numbers.Faults.main = ((lit≤ tt, lit≤ tt), lit≤ tt, lit≤ tt)
+fault-fits h _ (Numbers.Faults.spawn l (inl e)) = ((omega arith, omega arith), omega arith, lit≤ tt)
+fault-fits h _ (Numbers.Faults.spawn l (inr e)) = ((omega arith, omega arith), omega arith, lit≤ tt)
+fault-fits {s} {P} h _ (Numbers.Faults.block {f = f} g l w) =
+    let i = at-below P f g in
+    let j = h .blocks f g in
+    ((omega arith, omega arith), omega arith, omega arith)
+
+fault-told : {s : List ℕ} {P : Program} → Lies s P → {q : Refusal} → Numbers.Faults P q → OfProgram s (codeOf q)
+fault-told h Numbers.Faults.main =
+    record { numbered = (lit≤ tt, lit≤ tt); placed = Placed.atMain refl refl refl; functionThere = omega arith; functions = omega arith }
+fault-told h (Numbers.Faults.spawn l (inl e)) =
+    record {
+      numbered = (omega arith, omega arith);
+      placed = Placed.atSpawn (inl (omega arith)) (omega arith);
+      functionThere = omega arith;
+      functions = omega arith;
+    }
+fault-told h (Numbers.Faults.spawn l (inr e)) =
+    record {
+      numbered = (omega arith, omega arith);
+      placed = Placed.atSpawn (inr (omega arith)) (omega arith);
+      functionThere = omega arith;
+      functions = omega arith;
+    }
+fault-told {P = P} h (Numbers.Faults.block {f = f} g l w) =
+    let i = at-below P f g in
+    let j = h .blocks f g in
+    record {
+      numbered = (omega arith, omega arith);
+      placed = Placed.atBlock (omega arith, omega arith) (omega arith);
+      functionThere = omega arith;
+      functions = omega arith;
+    }
+
+check-fits : {s : List ℕ} (q : Refusal) → Numbers.OfCheck s q → Fits q
+check-fits _ (Numbers.OfCheck.table h) = table-fits _ h
+check-fits _ (Numbers.OfCheck.program e h) = fault-fits (lies e) _ h
+
+check-told : {s : List ℕ} {q : Refusal} → Numbers.OfCheck s q → OfTable s (codeOf q) ⊎ OfProgram s (codeOf q)
+check-told (Numbers.OfCheck.table h) = inl (table-told h)
+check-told (Numbers.OfCheck.program e h) = inr (fault-told (lies e) h)
+
+-- the value 0, and answers that give nothing more
+module _ (a : Answer (Unit {0})) (G : Unit {0} → Type 0) (R : Refusal → Type 0) (fits : (q : Refusal) → R q → Fits q)
+    (can : Can G R a) where
+  room : (u : Unit {0}) → G u → 0 < 2 ^ 32
+  room u h = omega arith
+
+  done-in : outcome (answerIn (done a)) ≡ a
+  unfolding outcome
+  done-in = ap outcome (tells done-code G R room fits a can) ∙ back a
+    where
+      back : (a : Answer (Unit {0})) → outcome (valued (λ _. 0) a) ≡ a
+      back (Answer.given u) = refl
+      back (Answer.refused q) = refl
+
+  -- given: the value is 0, and what holds then
+  done-gave : isGiven (done a) ≡ true → Gave (λ _. 0) G a (done a)
+  done-gave e = gave done-code G R room fits a can e
+
+  done-refused : isGiven (done a) ≡ false → Refused R a (done a)
+  done-refused e = refused done-code G R room fits a can e
+
+outcome-can : {A : Type 0} (R : Refusal → Type 0) (a : Answer A) → Can Any R a → Can Any R (outcome a)
+unfolding outcome
+outcome-can R (Answer.given x) h = tt
+outcome-can R (Answer.refused q) h = h
+
+pub read-law : (s : List ℕ) (r : ℕ) → Read s r → ReadTells s r
+read-law s r e =
+    let a = outcome (Calls.read s) in
+    let R = Numbers.OfTable s in
+    let can = outcome-can R (Calls.read s) (read-can s) in
+    rw e
+    (record {
+      answers = done-in a Any R table-fits can;
+      given = λ g. done-gave a Any R table-fits can g .told;
+      refused = λ g. let q = done-refused a Any R table-fits can g in rw (q .told) (table-told (q .has));
+    })
+
+pub check-law : (s : List ℕ) (r : ℕ) → Check s r → CheckTells s r
+check-law s r e =
+    let a = Calls.check s in
+    let R = Numbers.OfCheck s in
+    let can = check-can s in
+    rw e
+    (record {
+      answers = done-in a Any R check-fits can;
+      given = λ g. done-gave a Any R check-fits can g .told;
+      refused = λ g. let q = done-refused a Any R check-fits can g in rw (q .told) (check-told (q .has));
+    })
+
+-- the words of the fresh pool
+started-fresh : wordsOf started ≡ fresh
+unfolding wordsOf wordsOfThread wordsOfFrame started begin concat pad below fresh
+started-fresh = refl
+
+pub start-law : (s : List ℕ) (ws : List ℤ) (r : ℕ) (ws′ : List ℤ) → Start s ws r ws′ → StartTells s ws r ws′
+start-law s ws r ws′ g =
+    let a = Calls.start s ws .answer in
+    let R = Numbers.OfStart s in
+    let can = start-can s ws in
+    let words : ws′ ≡ Calls.start s ws .after = g .words in
+    rw (g .number)
+    (record {
+      answers = done-in a Any R start-fits can;
+      given = λ e. let v = done-gave a Any R start-fits can e in (v .told, words ∙ start-begins s ws (v .is) ∙ started-fresh);
+      refused = λ e.
+          let q = done-refused a Any R start-fits can e in
+          (rw (q .told) (start-told (q .has)), words ∙ start-leaves s ws (q .is));
+    })
+
+rule-room : (kind rule : ℕ) → RuleOf kind rule → rule < 2 ^ 32
+rule-room kind rule (inl h) = omega arith
+rule-room kind rule (inr h) = omega arith
+
+valued-same : (a : Answer ℕ) → valued (λ x. x) a ≡ a
+valued-same (Answer.given x) = refl
+valued-same (Answer.refused q) = refl
+
+pub choose-law : (s : List ℕ) (ws : List ℤ) (kind thread r : ℕ) (ws′ : List ℤ) → Choose s ws kind thread r ws′ →
+    ChooseTells s ws kind thread r ws′
+choose-law s ws kind thread r ws′ g =
+    let a = Calls.choose s ws kind thread .answer in
+    let R = Numbers.OfChoice s in
+    let can = choose-can s ws kind thread in
+    let room = rule-room kind in
+    let words : ws′ ≡ Calls.choose s ws kind thread .after = g .words in
+    rw (g .number)
+    (record {
+      answers = tells ruled-code (RuleOf kind) R room choice-fits a can ∙ valued-same a;
+      given = λ e. let v = gave ruled-code (RuleOf kind) R room choice-fits a can e in rw (v .told) (v .has);
+      refused = λ e.
+          let q = refused ruled-code (RuleOf kind) R room choice-fits a can e in
+          (rw (q .told) (choice-told (q .has)), words ∙ choose-leaves s ws kind thread (q .is));
+    })
+
+-- a list of choices
+schedule-fits : {s : List ℕ} {ws ws′ : List ℤ} {cs : List Choice} {made : ℕ} (q : Refusal) → Numbers.OfSchedule s ws cs q made ws′ → Fits q
+schedule-fits _ (Numbers.OfSchedule.lends h) = lent-fits _ h
+schedule-fits _ (Numbers.OfSchedule.chosen w c there e) = inr (omega arith, omega arith)
+
+record Stopped (s : List ℕ) (ws : List ℤ) (cs : List Choice) (r made : ℕ) (ws′ : List ℤ) : Type 0 where
+  choice : OfChoice s r
+  before : number r < No.kind → (made ≡ 0) × (ws′ ≡ ws)
+  stops : No.kind ≤ number r → StopsAt s ws′ cs r made
+
+pool-below : {s : List ℕ} {r : ℕ} → OfPool s r → number r < No.kind
+pool-below (inl h) = omega (arith, h .numbered .1)
+pool-below (inr h) = omega arith
+
+schedule-told : {s : List ℕ} {ws ws′ : List ℤ} {cs : List Choice} {made : ℕ} {q : Refusal} → Numbers.OfSchedule s ws cs q made ws′ →
+    Stopped s ws cs (codeOf q) made ws′
+unfolding ruled
+schedule-told (Numbers.OfSchedule.lends h) =
+    let p = lent-told h in
+    record { choice = wider p; before = λ _. (refl, refl); stops = λ l. absurd (omega (arith, pool-below p)) }
+schedule-told (Numbers.OfSchedule.chosen w c there e) =
+    record {
+      choice = inr (omega arith, omega arith);
+      before = λ b. absurd (omega arith);
+      stops = λ _. record { choice = c; there = there; again = λ q w′ g. g .number ∙ ap ruled e };
+    }
+
+stops-same : {s : List ℕ} {ws ws′ : List ℤ} {cs : List Choice} {r made made′ : ℕ} → made′ ≡ made → ws′ ≡ ws → StopsAt s ws cs r made →
+    StopsAt s ws′ cs r made′
+stops-same m w h = rw (m, w) h
+
+pub schedule-law : (s : List ℕ) (ws : List ℤ) (cs : List Choice) (r made : ℕ) (ws′ : List ℤ) → Schedule s ws cs r made ws′ →
+    ScheduleTells s ws cs r made ws′
+schedule-law s ws cs r made ws′ g =
+    let c = Calls.schedule s ws cs in
+    let G : Unit {0} → Type 0 = λ u. c .made ≡ length cs in
+    let R : Refusal → Type 0 = λ q. Numbers.OfSchedule s ws cs q (c .made) (c .after) in
+    let can = schedule-can s ws cs in
+    let words : ws′ ≡ c .after = g .words in
+    let stopped : isGiven (done (c .answer)) ≡ false → Stopped s ws cs (done (c .answer)) (c .made) (c .after) =
+    λ e. let q = done-refused (c .answer) G R schedule-fits can e in rw (q .told) (schedule-told (q .has)) in
+    rw (g .number)
+    (record {
+      answers = done-in (c .answer) G R schedule-fits can;
+      given = λ e. let v = done-gave (c .answer) G R schedule-fits can e in (v .told, g .count ∙ v .has);
+      refused = λ e. stopped e .choice;
+      before = λ e l. let b = stopped e .before l in (g .count ∙ b .0, words ∙ b .1);
+      stops = λ e l. stops-same (g .count) words (stopped e .stops l);
+    })
+
+-- which thread can step
+abbrev Eight : Option ℕ → Type 0
+Eight o = OnSome (λ i. i < 8) o
+
+eight-room : (o : Option ℕ) → Eight o → thread o < 2 ^ 32
+eight-room none h = omega arith
+eight-room (some i) h = omega arith
+
+thread-in : (a : Answer (Option ℕ)) (R : Refusal → Type 0) → Can Eight R a → threadIn (valued thread a) ≡ a
+unfolding threadIn
+thread-in (Answer.given none) R h = refl
+thread-in (Answer.given (some i)) R h = let e : eqb i 8 ≡ false = ne-eqb i 8 (λ e. omega arith) in rw e
+thread-in (Answer.refused q) R h = refl
+
+eight-most : (o : Option ℕ) → Eight o → thread o ≤ 8
+eight-most none h = omega arith
+eight-most (some i) h = omega arith
+
+pub which-law : (s : List ℕ) (ws : List ℤ) (r : ℕ) → Which s ws r → WhichTells s ws r
+which-law s ws r f =
+    let a = f .answer in
+    let R = Numbers.OfLent s in
+    let can = which-can s ws a (f .right) in
+    let reads : threadIn (answerIn (stepperOf a)) ≡ a =
+    ap threadIn (tells stepper-code Eight R eight-room lent-fits a can) ∙ thread-in a R can in
+    rw (f .number)
+    (record {
+      answers = rw reads (f .right);
+      given = λ e. let v = gave stepper-code Eight R eight-room lent-fits a can e in rw (v .told) (eight-most (v .what) (v .has));
+      refused = λ e. let q = refused stepper-code Eight R eight-room lent-fits a can e in rw (q .told) (lent-told (q .has));
+    })
+
+-- main's values
+abbrev pub Four : Option (List ℤ) → Type 0
+Four o = OnSome (λ v̄. length v̄ ≤ 4) o
+
+pub four-room : (o : Option (List ℤ)) → Four o → count o < 2 ^ 32
+four-room none h = omega arith
+four-room (some v̄) h = omega arith
+
+over-take : (v̄ vs : List ℤ) → length v̄ ≤ length vs → take (length v̄) (over v̄ vs) ≡ v̄
+unfolding over
+over-take [] vs h = refl
+over-take (v ∷ v̄) [] h = absurd (omega arith)
+over-take (v ∷ v̄) (w ∷ vs) h = ap {A = List ℤ} (λ l. v ∷ l) (over-take v̄ vs (omega arith))
+
+over-drop : (v̄ vs : List ℤ) → drop (length v̄) (over v̄ vs) ≡ drop (length v̄) vs
+unfolding over
+over-drop [] vs = refl
+over-drop (v ∷ v̄) [] = refl
+over-drop (v ∷ v̄) (w ∷ vs) = over-drop v̄ vs
+
+four-or : (o : Option (List ℤ)) → Four o → (count o ≤ 4) ⊎ (count o ≡ 255)
+four-or none h = inr refl
+four-or (some v̄) h = inl h
+
+module _ (vs : List ℤ) where
+  values-in : (a : Answer (Option (List ℤ))) (R : Refusal → Type 0) → length vs ≡ 4 → Can Four R a →
+      valuesIn (valued count a) (written a vs) ≡ a
+  unfolding valuesIn written
+  values-in (Answer.given none) R four h = refl
+  values-in (Answer.given (some v̄)) R four h =
+      let e : eqb (length v̄) 255 ≡ false = ne-eqb (length v̄) 255 (λ e. omega arith) in
+      rw (e, over-take v̄ vs (omega arith))
+  values-in (Answer.refused q) R four h = refl
+
+  behind : (o : Option (List ℤ)) → count o ≤ 4 → drop (count o) (written (Answer.given o) vs) ≡ drop (count o) vs
+  unfolding written
+  behind none h = absurd (omega arith)
+  behind (some v̄) h = over-drop v̄ vs
+
+  behind-at : (a : Answer (Option (List ℤ))) (o : Option (List ℤ)) (n : ℕ) → a ≡ Answer.given o → n ≡ count o → n ≤ 4 →
+      drop n (written a vs) ≡ drop n vs
+  behind-at a o n p q h = rw (p, q) (behind o (rw q at h))
+
+  unwritten : (o : Option (List ℤ)) → Four o → count o ≡ 255 → written (Answer.given o) vs ≡ vs
+  unfolding written
+  unwritten none h e = refl
+  unwritten (some v̄) h e = absurd (omega arith)
+
+  refused-written : (q : Refusal) → written (Answer.refused q) vs ≡ vs
+  unfolding written
+  refused-written q = refl
+
+pub values-law : (s : List ℕ) (ws vs : List ℤ) (r : ℕ) (vs′ : List ℤ) → length vs ≡ 4 → Values s ws vs r vs′ → ValuesTells s ws vs r vs′
+values-law s ws vs r vs′ four g =
+    let a = Calls.values s ws in
+    let R = Numbers.OfLent s in
+    let can = values-can s ws in
+    let words : vs′ ≡ written a vs = g .words in
+    let gave : isGiven (counted a) ≡ true → Gave count Four a (counted a) = gave counted-code Four R four-room lent-fits a can in
+    rw (g .number)
+    (record {
+      answers =
+          ap (valuesIn (answerIn (counted a))) words ∙
+          ap (λ (x : Answer ℕ). valuesIn x (written a vs)) (tells counted-code Four R four-room lent-fits a can) ∙
+          values-in vs a R four can;
+      given = λ e. let v = gave e in rw (v .told) (four-or (v .what) (v .has));
+      behind = λ e l.
+          let v = gave e in
+          ap (drop (value (counted a))) words ∙ behind-at vs a (v .what) (value (counted a)) (v .is) (v .told) l;
+      unwritten = λ e o.
+          let v = gave e in
+          words ∙ ap (λ x. written x vs) (v .is) ∙ unwritten vs (v .what) (v .has) (sym (v .told) ∙ o);
+      refused = λ e.
+          let q = refused counted-code Four R four-room lent-fits a can e in
+          (rw (q .told) (lent-told (q .has)), words ∙ ap (λ x. written x vs) (q .is) ∙ refused-written vs (q .what));
+    })
+
+-- all of them
+pub laws : Laws.Laws
+laws =
+    record {
+      read = read-law;
+      check = check-law;
+      start = start-law;
+      choose = choose-law;
+      schedule = schedule-law;
+      which = which-law;
+      values = values-law;
+    }

@@ -1,0 +1,35 @@
+-- The contract of each exported function, under the name of the function: what it says of the bytes and words lent, the number
+-- answered, and the words left. A table is never written.
+use Prim.Native.Nat.{ℕ}
+use mathlib.Core.Path.{_≡_}
+use mathlib.Core.List.{List}
+use lib.IntN.{ℤ}
+use Rattle.model.specs.Answers.{outcome}
+use Rattle.model.specs.Calls as Calls
+use Rattle.model.specs.Calls.{Choice}
+use Rattle.host.specs.Exports as Exports
+use Rattle.host.specs.Exports.{done, ruled, Gives, Finds, Tells}
+
+abbrev pub Read : List ℕ → ℕ → Type 0
+Read s r = r ≡ done (outcome (Calls.read s))
+
+abbrev pub Check : List ℕ → ℕ → Type 0
+Check s r = r ≡ done (Calls.check s)
+
+-- the pool's words before and afterwards
+abbrev pub Start : List ℕ → List ℤ → ℕ → List ℤ → Type 0
+Start s ws r ws′ = Gives done (Calls.start s ws) r ws′
+
+abbrev pub Choose : List ℕ → List ℤ → ℕ → ℕ → ℕ → List ℤ → Type 0
+Choose s ws kind thread r ws′ = Gives ruled (Calls.choose s ws kind thread) r ws′
+
+-- how many choices were made, too
+abbrev pub Schedule : List ℕ → List ℤ → List Choice → ℕ → ℕ → List ℤ → Type 0
+Schedule s ws cs r made ws′ = Tells (Calls.schedule s ws cs) r made ws′
+
+abbrev pub Which : List ℕ → List ℤ → ℕ → Type 0
+Which s ws r = Finds s ws r
+
+-- the words lent for main's values before and afterwards
+abbrev pub Values : List ℕ → List ℤ → List ℤ → ℕ → List ℤ → Type 0
+Values s ws vs r vs′ = Exports.Values (Calls.values s ws) vs r vs′

@@ -1,0 +1,135 @@
+-- What a host may conclude from the number that a call answered and from the memory that it lent, for all bytes and words: the
+-- number tells the definition's answer, which numbers there are, and what is written.
+use Prim.Native.Nat.{ℕ, _≤_, _<_, _-_}
+use mathlib.Core.Path.{_≡_}
+use mathlib.Core.Logic.{_⊎_}
+use mathlib.Core.Bool.{true, false, _&&_, cond}
+use mathlib.Core.Option.{Option, none, some}
+use mathlib.Core.List.{List, _∷_}
+use lib.Dec.{eqb, leb}
+use lib.IntN.{ℤ, pos}
+use lib.ListN.{length, getD, getElem?, take, drop, replicate}
+use Rattle.model.specs.Numbers as No
+use Rattle.model.specs.Numbers.{Within, RuleOf}
+use Rattle.model.specs.Answers.{Refusal, Answer, outcome}
+use Rattle.model.specs.Calls as Calls
+use Rattle.model.specs.Calls.{Choice}
+use Rattle.host.specs.Macros.{isGiven, value, number, place, block, function, poolWords, noThread, stillOpen}
+use Rattle.host.specs.Contracts.{Read, Check, Start, Choose, Schedule, Which, Values}
+
+-- what the macros read in a refused number: for 3 a place, for 4 to 11 a function and a block
+unfoldable pub refusalIn : ℕ → Refusal
+refusalIn r =
+    cond (eqb (number r) No.form) (Refusal.byte (place r))
+    (cond (leb No.main (number r) && leb (number r) No.nesting) (Refusal.fault (number r) (function r) (block r))
+    (Refusal.plain (number r)))
+
+-- what they read in a number: given exactly where bit 32 is set, with its value
+unfoldable pub answerIn : ℕ → Answer ℕ
+answerIn r = cond (isGiven r) (Answer.given (value r)) (Answer.refused (refusalIn r))
+
+-- the value as a thread that can step
+unfoldable pub threadIn : Answer ℕ → Answer (Option ℕ)
+threadIn (Answer.given v) = Answer.given (cond (eqb v noThread) none (some v))
+threadIn (Answer.refused q) = Answer.refused q
+
+-- the value as the number of main's values, which stand in the words lent for them
+unfoldable pub valuesIn : Answer ℕ → List ℤ → Answer (Option (List ℤ))
+valuesIn (Answer.given v) vs = Answer.given (cond (eqb v stillOpen) none (some (take v vs)))
+valuesIn (Answer.refused q) vs = Answer.refused q
+
+-- 1 to 3: the place of a 3 is an offset in a table of 6 to 16,384 bytes, or its length
+pub record OfTable (s : List ℕ) (r : ℕ) : Type 0 where
+  pub numbered : Within No.size No.form (number r)
+  pub placed : number r ≡ No.form → (place r ≤ length s) × Within 6 16384 (length s)
+
+-- 4 to 11: at a block, whose number is below 32; at a spawn call, 6 or 9 with block 255; or main's 4, with function 0 and
+-- block 255. The function is one of the table's: byte 5 says how many there are
+pub data Placed (r : ℕ) : Type 0 where
+  atBlock : Within No.entry No.nesting (number r) → block r < 32 → Placed r
+  atSpawn : (number r ≡ No.missing) ⊎ (number r ≡ No.count) → block r ≡ 255 → Placed r
+  atMain : number r ≡ No.main → function r ≡ 0 → block r ≡ 255 → Placed r
+
+pub record OfProgram (s : List ℕ) (r : ℕ) : Type 0 where
+  pub numbered : Within No.main No.nesting (number r)
+  pub placed : Placed r
+  pub functionThere : function r < getD s 5 0
+  pub functions : getD s 5 0 ≤ 16
+
+-- 1 to 3, 12 and 13; 1 to 3, and 12 to 21
+abbrev pub OfPool : List ℕ → ℕ → Type 0
+OfPool s r = OfTable s r ⊎ Within No.words No.pool (number r)
+
+abbrev pub OfChoice : List ℕ → ℕ → Type 0
+OfChoice s r = OfTable s r ⊎ Within No.words No.threads (number r)
+
+-- mezdaulk_read
+pub record ReadTells (s : List ℕ) (r : ℕ) : Type 0 where
+  pub answers : outcome (answerIn r) ≡ outcome (Calls.read s)
+  pub given : isGiven r ≡ true → value r ≡ 0
+  pub refused : isGiven r ≡ false → OfTable s r
+
+-- mezdaulk_check
+pub record CheckTells (s : List ℕ) (r : ℕ) : Type 0 where
+  pub answers : outcome (answerIn r) ≡ Calls.check s
+  pub given : isGiven r ≡ true → value r ≡ 0
+  pub refused : isGiven r ≡ false → OfTable s r ⊎ OfProgram s r
+
+-- a fresh pool: one thread, with one frame at main's entry
+unfoldable pub fresh : List ℤ
+fresh = pos 1 ∷ pos 1 ∷ replicate (poolWords - 2) (pos 0)
+
+-- mezdaulk_start
+pub record StartTells (s : List ℕ) (ws : List ℤ) (r : ℕ) (ws′ : List ℤ) : Type 0 where
+  pub answers : outcome (answerIn r) ≡ Calls.start s ws .answer
+  pub given : isGiven r ≡ true → (value r ≡ 0) × (ws′ ≡ fresh)
+  pub refused : isGiven r ≡ false → (OfTable s r ⊎ (number r ≡ No.words)) × (ws′ ≡ ws)
+
+-- mezdaulk_choose: the value is the rule
+pub record ChooseTells (s : List ℕ) (ws : List ℤ) (kind thread r : ℕ) (ws′ : List ℤ) : Type 0 where
+  pub answers : answerIn r ≡ Calls.choose s ws kind thread .answer
+  pub given : isGiven r ≡ true → RuleOf kind (value r)
+  pub refused : isGiven r ≡ false → OfChoice s r × (ws′ ≡ ws)
+
+-- the choice behind those made: put to the words that they left, it is answered the same number
+pub record StopsAt (s : List ℕ) (ws : List ℤ) (cs : List Choice) (r made : ℕ) : Type 0 where
+  pub choice : Choice
+  pub there : getElem? cs made ≡ some choice
+  pub again : (q : ℕ) (ws′ : List ℤ) → Choose s ws (choice .kind) (choice .thread) q ws′ → q ≡ r
+
+-- mezdaulk_schedule: given, it made all of its choices; refused with 1 to 3, 12 or 13, it made none and wrote nothing; refused
+-- with 14 to 21, it stopped at a choice
+pub record ScheduleTells (s : List ℕ) (ws : List ℤ) (cs : List Choice) (r made : ℕ) (ws′ : List ℤ) : Type 0 where
+  pub answers : outcome (answerIn r) ≡ Calls.schedule s ws cs .answer
+  pub given : isGiven r ≡ true → (value r ≡ 0) × (made ≡ length cs)
+  pub refused : isGiven r ≡ false → OfChoice s r
+  pub before : isGiven r ≡ false → number r < No.kind → (made ≡ 0) × (ws′ ≡ ws)
+  pub stops : isGiven r ≡ false → No.kind ≤ number r → StopsAt s ws′ cs r made
+
+-- mezdaulk_which: a right answer; its value is a thread below 8 whose step makes a rule, or 8 exactly for none
+pub record WhichTells (s : List ℕ) (ws : List ℤ) (r : ℕ) : Type 0 where
+  pub answers : Calls.Which s ws (threadIn (answerIn r))
+  pub given : isGiven r ≡ true → value r ≤ noThread
+  pub refused : isGiven r ≡ false → OfPool s r
+
+-- mezdaulk_values: the value is how many there are, and they stand in the first words; 255 exactly for open. Words behind them
+-- stay, and nothing is written where they are open or refused
+pub record ValuesTells (s : List ℕ) (ws vs : List ℤ) (r : ℕ) (vs′ : List ℤ) : Type 0 where
+  pub answers : valuesIn (answerIn r) vs′ ≡ Calls.values s ws
+  pub given : isGiven r ≡ true → (value r ≤ 4) ⊎ (value r ≡ stillOpen)
+  pub behind : isGiven r ≡ true → value r ≤ 4 → drop (value r) vs′ ≡ drop (value r) vs
+  pub unwritten : isGiven r ≡ true → value r ≡ stillOpen → vs′ ≡ vs
+  pub refused : isGiven r ≡ false → OfPool s r × (vs′ ≡ vs)
+
+-- whatever an exported function answered by its contract
+pub record Laws : Type 0 where
+  pub read : (s : List ℕ) (r : ℕ) → Read s r → ReadTells s r
+  pub check : (s : List ℕ) (r : ℕ) → Check s r → CheckTells s r
+  pub start : (s : List ℕ) (ws : List ℤ) (r : ℕ) (ws′ : List ℤ) → Start s ws r ws′ → StartTells s ws r ws′
+  pub choose : (s : List ℕ) (ws : List ℤ) (kind thread r : ℕ) (ws′ : List ℤ) → Choose s ws kind thread r ws′ →
+      ChooseTells s ws kind thread r ws′
+  pub schedule : (s : List ℕ) (ws : List ℤ) (cs : List Choice) (r made : ℕ) (ws′ : List ℤ) → Schedule s ws cs r made ws′ →
+      ScheduleTells s ws cs r made ws′
+  pub which : (s : List ℕ) (ws : List ℤ) (r : ℕ) → Which s ws r → WhichTells s ws r
+  pub values : (s : List ℕ) (ws vs : List ℤ) (r : ℕ) (vs′ : List ℤ) → length vs ≡ 4 → Values s ws vs r vs′ →
+      ValuesTells s ws vs r vs′

@@ -1,0 +1,41 @@
+-- The macros of include/mezdaulk.h, as functions of the number that a call answers.
+use Prim.Native.Nat.{ℕ, _^_, _/_, _%_}
+use mathlib.Core.Bool.{Bool}
+use lib.Dec.{eqb}
+
+-- bit 32: the call is given; and the value of what is given, in the low 32 bits
+abbrev pub isGiven : ℕ → Bool
+isGiven r = eqb (r / 2 ^ 32 % 2) 1
+
+abbrev pub value : ℕ → ℕ
+value r = r % 2 ^ 32
+
+-- a refusal: its number; the place of a 3; the block and the function of 4 to 11
+abbrev pub number : ℕ → ℕ
+number r = r % 256
+
+abbrev pub place : ℕ → ℕ
+place r = r / 256 % 2 ^ 24
+
+abbrev pub block : ℕ → ℕ
+block r = r / 256 % 256
+
+abbrev pub function : ℕ → ℕ
+function r = r / 65536 % 256
+
+-- a pool's length in words; the kinds of a choice
+abbrev pub poolWords : ℕ
+poolWords = 1673
+
+abbrev pub step : ℕ
+step = 0
+
+abbrev pub promote : ℕ
+promote = 1
+
+-- the value of mezdaulk_which where no thread can step, and of mezdaulk_values while main's values are open
+abbrev pub noThread : ℕ
+noThread = 8
+
+abbrev pub stillOpen : ℕ
+stillOpen = 255
