@@ -1,10 +1,11 @@
 // The library for hosts: thin exports. include/mezdaulk.h says what each answer is.
+use answers::Answer;
 use machine::Chosen;
 use machine::Started;
 use machine::State;
 use machine::Stepping;
-use pairs::Scheduled;
 use schedule::Choice;
+use schedule::Scheduled;
 use table::Reading;
 use verifier::Checked;
 ghost use mathlib.Core.Path.{_≡_};
@@ -15,8 +16,11 @@ ghost use lib.ListN.{take};
 ghost use Rattle.model.specs.Answers.{Refusal, Answer};
 ghost use Rattle.model.specs.Calls as Calls;
 ghost use Rattle.table.specs.Reading.{outcome};
+ghost use Rattle.answers.specs.Answers.{answerOf};
+ghost use Rattle.host.specs.Exports.{done, Tells};
 ghost use Rattle.schedule.specs.Choices.{choicesOf};
-ghost use Rattle.mezdaulk.specs.Coded.{codeOf, done, ruled, Gives, Finds, Tells, Reports, Values};
+ghost use Rattle.mezdaulk.specs.Coded.{codeOf, ruled, Gives, Finds, Values};
+ghost use Rattle.mezdaulk.specs.Reports.{Reports};
 
 const GIVEN: u64 = 4294967296;
 
@@ -139,24 +143,23 @@ pub extern "C" fn mezdaulk_values(table: &[u8], pool: &[i32], values: &mut [i32;
     }
 }
 
-// The report of a list of choices, with the number made written.
+// An answer that gives nothing more, as one number.
+fn done(a: Answer) -> u64
+    ensures { λ r. ⌜ r ≡ done (answerOf a) ⌝ }
+{
+    match a {
+        Answer::Given => answers::value(0),
+        Answer::Refused(why) => answers::code(why),
+    }
+}
+
+// The report of a list of choices as one number, with the number made written.
 fn report(answer: Scheduled, made: &mut u64) -> u64
     ensures { λ r. ⌜ Reports answer r (now (made .exit)) ⌝ }
 {
-    match answer {
-        Scheduled::All(all) => {
-            *made = all as u64;
-            GIVEN
-        }
-        Scheduled::Stopped(before, number) => {
-            *made = before as u64;
-            number as u64
-        }
-        Scheduled::Unread(at) => {
-            *made = 0;
-            bad_byte(at)
-        }
-    }
+    let a = answer.answer;
+    *made = answer.made as u64;
+    done(a)
 }
 
 #[no_mangle]

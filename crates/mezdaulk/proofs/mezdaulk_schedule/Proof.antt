@@ -32,7 +32,7 @@ use denote.Plain.{uint-tells, uint-makes, uint-lawful}
 use denote.Ref.{RefT, MutRef, ptr-vals, mut-tells}
 use denote.Slice.{sliceTy, sliceVal, slice-vals, MutSlice, ShrSlice, Room, finally, mut-slice-tells, shr-slice-tells}
 use denote.Steps.{only, owned, peeks, heard, nothing}
-use denote.Enum.Laws as EL
+use denote.Struct.Laws as LL
 use denote.Exit.{yes}
 use denote.Triple.Entry.{Args, Vals, onEntry}
 use denote.Triple.Spec.{Meets, tripleOf}
@@ -42,18 +42,19 @@ use denote.Triple.Table.{entered, cited}
 use denote.Triple.Call.{calls-at}
 use denote.Triple.Walked.{says, Stays, stay-dropped, gave-ref, gave-slice, walkOf, goes-dropped, goes-gave-ref, goes-gave-slice, Walks, ends-at, walked, walk-meets}
 use Rattle.model.specs.Calls as Model
-use Rattle.pairs.specs.declared.Scheduled.{Scheduled}
-use Rattle.pairs.specs.Lists.{scheduledOf}
-use Rattle.pairs.proofs.Scheduled as Σ
-use Rattle.pairs.proofs.Scheduled.Laws as Σ′
+use Rattle.host.specs.Exports.{Tells}
 use Rattle.schedule.specs.declared.Choice.{Choice}
+use Rattle.schedule.specs.declared.Scheduled.{Scheduled}
 use Rattle.schedule.specs.Choices.{choicesOf}
+use Rattle.schedule.specs.Runs.{scheduledOf}
 use Rattle.schedule.proofs.Choice as T
+use Rattle.schedule.proofs.Scheduled as Σ
+use Rattle.schedule.proofs.Scheduled.Laws as Σ′
 use Rattle.schedule.proofs.schedule as schedule
 use Rattle.schedule.proofs.schedule.Symbol as schedule-def
 use Rattle.schedule.proofs.schedule.Symbol.{name as #schedule·schedule}
 use Rattle.schedule.proofs.schedule.Met as schedule-thm
-use Rattle.mezdaulk.specs.Coded.{Tells, Reports}
+use Rattle.mezdaulk.specs.Reports.{Reports}
 use Rattle.mezdaulk.proofs.report as report
 use Rattle.mezdaulk.proofs.report.Symbol as report-def
 use Rattle.mezdaulk.proofs.report.Symbol.{name as #mezdaulk·report}
@@ -257,7 +258,7 @@ module _ {M : Type 1} (𝓤 : URA M) (H : Heap 𝓤) (A : Atoms 𝓤) (W : Given
         → Sq W (Locals (‵ (froom t₈ l₈ 0)) (‵ (froom t₇ l₇ 0)) (‵ (froom t₆ l₆ 0)) (‵ (fat fullShare t₅ l₅ 0 (val r))) (‵ (froom t₀ l₀ 0)) (‵ (flft κ₀ q₀) ∷ ‵ (flft κ₁ q₁) ∷ ‵ (flft κ₂ q₂) ∷ ‵ (flft κ₃ q₃) ∷ ‵ (Words zs) ∷ ‵ Md ∷ [])) (runs C Λ En mir.t-4 (atRet En Post))
     reporting r zs e l is =
         assigns ! (addr ! (from ! (hop ! (look ! 8 refl) (stop !)))) (from ! (stop !)) (init ! 0 refl (tt, tt)) $
-        owned ! Σ.the-row (Is Σ.the-row) (EL.makes Σ.the-type Σ′.the-plain 𝓤 H A) r _ is $
+        owned ! Σ.the-row (Is Σ.the-row) (LL.makes Σ.the-type Σ′.the-plain 𝓤 H A) r _ is $
         -- [the answer; the locals; κ₀; κ₁; κ₂; κ₃; the words; Md]
         move ! (22 ∷ 0 ∷ 24 ∷ []) $ group ! 3 $ use1 W (raw (Reports-it 𝓤 H A mem go .pre (to-report r))) (goes-to-report r) $
         calls-at ! (fmOf 𝓤 H (W .laws) 𝓣) (Reports-it 𝓤 H A mem go) known-report (to-report r) (and-then ! (load ! (from ! (stop !)) (look ! 7 refl)) (and-then ! (load ! (from ! (stop !)) (look ! 1 refl)) (no-more !))) (λ w. reported r zs e l w)
@@ -272,7 +273,7 @@ module _ {M : Type 1} (𝓤 : URA M) (H : Heap 𝓤) (A : Atoms 𝓤) (W : Given
         -- [the last values; the tokens and the result; the locals; κ₃; Md]
         fsplit ! $ let-go ! $ fsplit ! $ fsplit ! $ move ! (1 ∷ []) $ feqL ! (λ l. move ! (1 ∷ []) $ let-go ! $ move ! (1 ∷ []) $ split ! $ move ! (1 ∷ []) $ peeks ! Σ.the-row (Is Σ.the-row) (shows 𝓤 H A Σ.the-row) r (w ∷ []) (λ is.
         -- [the result; the tokens; the words; the locals; κ₃; Md]
-        land ! (from ! (stop !)) (init ! 9 refl (EL.lawful Σ.the-type Σ′.the-laws 𝓤 H A W tt .typed r _ is .0)) $ rewrite ! 9 (λ (u : Val). ‵ (fat fullShare t₅ l₅ 0 u)) (ap only (Σ′.lowers .val-is r (w ∷ []) is)) refl $
+        land ! (from ! (stop !)) (init ! 9 refl (LL.lawful Σ.the-type Σ′.the-laws 𝓤 H A W .typed r _ is .0)) $ rewrite ! 9 (λ (u : Val). ‵ (fat fullShare t₅ l₅ 0 u)) (ap only (Σ′.lowers .val-is r (w ∷ []) is)) refl $
         let-go ! $ split ! $ move ! (1 ∷ []) $ split ! $ move ! (1 ∷ []) $ split ! $
         -- [κ₂; nothing; κ₁; κ₀; the words; the locals; κ₃; Md]
         keep ! (5 ∷ 6 ∷ 7 ∷ 8 ∷ 9 ∷ 10 ∷ 11 ∷ 12 ∷ 13 ∷ 14 ∷ 15 ∷ 16 ∷ 17 ∷ 18 ∷ 19 ∷ 20 ∷ 21 ∷ 22 ∷ 3 ∷ 2 ∷ 0 ∷ 23 ∷ 4 ∷ 24 ∷ []) $ forget ! 4 refl $ forget ! 2 refl $
