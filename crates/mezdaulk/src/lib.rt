@@ -3,6 +3,8 @@ use answers::Answer;
 use machine::Chosen;
 use machine::State;
 use machine::Stepping;
+use schedule::Choice;
+use schedule::Scheduled;
 ghost use mathlib.Core.Path.{_≡_};
 ghost use Prim.Native.Nat.{min};
 ghost use mathlib.Core.Bool.{cond};
@@ -12,8 +14,10 @@ ghost use lib.ListN.{take};
 ghost use Rattle.model.specs.Answers as Model;
 ghost use Rattle.model.specs.Calls as Calls;
 ghost use Rattle.answers.specs.Answers.{answerOf};
-ghost use Rattle.host.specs.Exports.{done, Gives, Finds, Values};
+ghost use Rattle.schedule.specs.Choices.{choicesOf};
+ghost use Rattle.host.specs.Exports.{done, Gives, Finds, Tells, Values};
 ghost use Rattle.host.specs.Exports as Exports;
+ghost use Rattle.mezdaulk.specs.Reports.{Reports};
 
 // An answer that gives nothing more, as one number.
 fn done(a: Answer) -> u64
@@ -107,3 +111,23 @@ pub extern "C" fn mezdaulk_values(table: &[u8], pool: &[i32], values: &mut [i32;
     }
 }
 
+// The report of a list of choices, with the number made written.
+fn report(answer: Scheduled, made: &mut u64) -> u64
+    ensures { λ r. ⌜ Reports answer r (now (made .exit)) ⌝ }
+{
+    let a = answer.answer;
+    *made = answer.made as u64;
+    done(a)
+}
+
+#[no_mangle]
+pub extern "C" fn mezdaulk_schedule(
+    table: &[u8],
+    pool: &mut [i32],
+    choices: &[Choice],
+    made: &mut u64,
+) -> u64
+    ensures { λ r. ⌜ Tells (Calls.schedule (now (table .entry)) (now (pool .entry)) (choicesOf (now (choices .entry)))) r (now (made .exit)) (now (pool .exit)) ⌝ }
+{
+    report(schedule::schedule(table, pool, choices), made)
+}

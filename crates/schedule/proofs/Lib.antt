@@ -1,2 +1,5 @@
 pub mod Again
+pub mod ByValue
 pub mod Choices
+pub mod Going
+pub mod Lending

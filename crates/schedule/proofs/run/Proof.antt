@@ -1,6 +1,6 @@
 -- `schedule::run` meets its contract: a walk of its MIR, by hand. A turn of the loop reads the next choice, lends the words again for a
 -- lifetime of the call, and goes by cases on the answer. All that the proof knows of `steps::choice` is that it meets its contract.
--- What is said of the lists is in `Going` of crate pairs and in `Choices`.
+-- What is said of the lists is in `Going` and in `Choices`.
 use mathlib.Core.Path.{_≡_, refl, sym, _∙_, ap, subst}
 use mathlib.Core.Bool.{Bool}
 use Prim.Native.Nat.{ℕ, _+_, _-_, _*_, _≤_, _<_, _^_, zero-le}
@@ -61,14 +61,14 @@ use Rattle.steps.proofs.choice as choice
 use Rattle.steps.proofs.choice.Symbol as choice-def
 use Rattle.steps.proofs.choice.Symbol.{name as #steps·choice}
 use Rattle.steps.proofs.choice.Met as choice-thm
-use Rattle.pairs.specs.declared.Scheduled.{Scheduled}
-use Rattle.pairs.specs.declared.Scheduled.the-variants.{All, Stopped}
+use Rattle.schedule.specs.declared.Ran.{Ran}
+use Rattle.schedule.specs.declared.Ran.the-variants.{All, Stopped}
 use Rattle.model.specs.Pool.{poolWords}
 use Rattle.model.specs.Calls.{Choice as Chosen}
-use Rattle.pairs.specs.Lists.{Runs, Going}
-use Rattle.pairs.proofs.Scheduled as Σ
-use Rattle.pairs.proofs.Scheduled.Laws as Σ′
-use Rattle.pairs.proofs.Going.{going-start, going-made, going-refused, going-ends}
+use Rattle.schedule.specs.Runs.{Runs}
+use Rattle.schedule.proofs.Ran as Σ
+use Rattle.schedule.proofs.Ran.Laws as Σ′
+use Rattle.schedule.proofs.Going.{Going, going-start, going-made, going-refused, going-ends}
 use Rattle.schedule.specs.declared.Choice.{Choice}
 use Rattle.schedule.specs.Choices.{choiceOf, choicesOf}
 use Rattle.schedule.proofs.Choice as T
@@ -147,8 +147,8 @@ t₁₄ = sliceTy (tyRef erased mut (tyInt w32))
 abbrev Ch : {M : Type 1} (𝓤 : URA M) (H : Heap 𝓤) (A : Atoms 𝓤) (mem : Memory → SProp 𝓤) (go : Routine → Fun 𝓤) → Contract 𝓤
 Ch 𝓤 H A mem go = tripleOf 𝓤 H A choice.signature (choice.spec 𝓤 H A mem go)
 
--- the machine values of what was scheduled, and of what a choice made
-abbrev val : Scheduled → Val
+-- the machine values of how it ends, and of what a choice made
+abbrev val : Ran → Val
 val r = EL.val Σ.the-type Σ′.the-laws r
 
 abbrev made : Made → Val
@@ -218,7 +218,7 @@ module _ {M : Type 1} (𝓤 : URA M) (H : Heap 𝓤) (A : Atoms 𝓤) (W : Given
   abbrev from-on : ℕ → List Chosen
   from-on n = drop n cs
 
-  exits : (r : Scheduled) (zs : List ℤ) → Runs (x₀ .now) (x₁ .now) ws cs r zs → length zs ≡ length ws → Is Σ.the-row r (val r ∷ []) → ent 𝓤 (⋆ 𝓤 H A (Had zs)) (Post (val r))
+  exits : (r : Ran) (zs : List ℤ) → Runs (x₀ .now) (x₁ .now) ws cs r zs → length zs ≡ length ws → Is Σ.the-row r (val r ∷ []) → ent 𝓤 (⋆ 𝓤 H A (Had zs)) (Post (val r))
   exits r zs e l is =
       qed W (Had zs) ∵ suffices ! _ (ends-at 𝓤 H A run.ended stayed (run.clauses 𝓤 H A mem go) W bound (val r) r (tt, (tt, (zs, (tt, tt)))) (tt, (tt, (l, (tt, tt))))) $ says ! e $
       nothing ! $ move ! (4 ∷ 0 ∷ []) $ join ! $ move ! (3 ∷ 0 ∷ []) $ join ! $ move ! (2 ∷ 0 ∷ []) $ join ! $ move ! (1 ∷ 0 ∷ []) $ join ! $ frame ! $
@@ -272,7 +272,7 @@ module _ {M : Type 1} (𝓤 : URA M) (H : Heap 𝓤) (A : Atoms 𝓤) (W : Given
     Turned t = afterTurn 𝓤 H (Below 𝓤 H A Nearer At t) (afterBlock 𝓤 H (afterSeq 𝓤 H (Wp 𝓤 H C Λ En mir.t-3 (atReturn 𝓤 H En Post)) (atReturn 𝓤 H En Post)))
 
     -- all but the result is freed
-    freed : (r : Scheduled) (zs : List ℤ) → Runs (x₀ .now) (x₁ .now) ws cs r zs → length zs ≡ length ws → Is Σ.the-row r (val r ∷ [])
+    freed : (r : Ran) (zs : List ℤ) → Runs (x₀ .now) (x₁ .now) ws cs r zs → length zs ≡ length ws → Is Σ.the-row r (val r ∷ [])
         → Sq W (Locals (‵ (froom (t₁₄) l₁₄ 0)) (‵ (froom (t₁₃) l₁₃ 0)) (‵ (froom (t₁₂) l₁₂ 0)) (‵ (froom (t₁₁) l₁₁ 0)) (‵ (froom (t₁₀) l₁₀ 0)) (‵ (froom (t₉) l₉ 0)) (‵ (froom (t₈) l₈ 0)) (‵ (froom (t₇) l₇ 0)) (‵ (froom (t₆) l₆ 0)) (‵ (froom (t₅) l₅ 0)) (‵ (fat fullShare (t₀) l₀ 0 (val r))) (Had zs)) (frees En (prop (Post (val r))))
     freed r zs e l is =
         forget ! 28 refl $ forget ! 26 refl $ forget ! 24 refl $ forget ! 22 refl $ forget ! 20 refl $

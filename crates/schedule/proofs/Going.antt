@@ -1,6 +1,7 @@
 -- Lists of choices: a run begins with nothing made, goes on by a choice that is made, and ends at a refusal or at the list's end.
 use Prim.Native.Nat.{ℕ, _+_}
 use mathlib.Core.Path.{_≡_, sym, _∙_, ap}
+use mathlib.Core.Bool.{true}
 use mathlib.Core.Option.{some}
 use mathlib.Core.List.{List, [], _∷_}
 use native.Mathlib.Nat.{zero-add, add-zero}
@@ -8,7 +9,7 @@ use native.Mathlib.Omega.{arith}
 use lib.IntN.{ℤ}
 use Rattle.model.specs.Answers.{Refusal, Answer}
 use Rattle.model.specs.Syntax.{Program}
-use Rattle.model.specs.Pool.{Pool, wordsOf}
+use Rattle.model.specs.Pool.{Pool, wordsOf, isPool}
 use Rattle.model.specs.Rules.{Result, choice}
 use Rattle.model.specs.Calls.{Choice, Ran, Called, made, oneMore, goOn, run, stopped, reported}
 use Rattle.model.proofs.Facts.{refused-given}
@@ -16,8 +17,21 @@ use Rattle.model.proofs.Kept.{choice-kept}
 use Rattle.places.specs.Places.{Places}
 use Rattle.steps.specs.declared.Made.the-variants.{Rule, Refused}
 use Rattle.steps.specs.Choice.{Chooses}
-use Rattle.pairs.specs.declared.Scheduled.the-variants.{All, Stopped}
-use Rattle.pairs.specs.Lists.{scheduledOf, Runs, moreBy, GoesOn, Going}
+use Rattle.schedule.specs.declared.Ran.the-variants.{All, Stopped}
+use Rattle.schedule.specs.Runs.{endedOf, scheduledOf, Runs}
+
+-- a run that goes on: n were made, the words are ws′, and the choices of `rest` are left
+abbrev moreBy : ℕ → Ran → Ran
+moreBy n r = record { made = n + r .made; refusal = r .refusal; pool = r .pool }
+
+pub record GoesOn (P : Program) (p : Pool) (cs : List Choice) (n : ℕ) (ws′ : List ℤ) (rest : List Choice) : Type 0 where
+  pub pool : Pool
+  pub words : ws′ ≡ wordsOf pool
+  pub valid : isPool P pool ≡ true
+  pub left : run P p cs ≡ moreBy n (run P pool rest)
+
+pub record Going (s places : List ℕ) (ws : List ℤ) (cs : List Choice) (n : ℕ) (ws′ : List ℤ) (rest : List Choice) : Type 0 where
+  pub at : (P : Program) (p : Pool) → Places s P places → ws ≡ wordsOf p → isPool P p ≡ true → GoesOn P p cs n ws′ rest
 
 -- what a choice on words says of the choice itself: it was made, or it was refused
 answer-given : (ws ws′ : List ℤ) (rule : ℕ) (x : Result) → _≡_ {A = Called ℕ} (record { answer = Answer.given rule; after = ws′ }) (made ws x)
@@ -57,11 +71,11 @@ none-by r = ap (λ (m : ℕ). record { made = m; refusal = r .refusal; pool = r 
 
 -- the code's report of a run that ends
 stopped-report : (n number : ℕ) (ws : List ℤ) (p : Pool) → ws ≡ wordsOf p
-    → scheduledOf (Stopped n number) ws ≡ reported (moreBy n (record { made = 0; refusal = some number; pool = p }))
+    → scheduledOf (endedOf (Stopped n number)) ws ≡ reported (moreBy n (record { made = 0; refusal = some number; pool = p }))
 unfolding scheduledOf reported stopped
 stopped-report n number ws p e = λ i. record { answer = Answer.refused (Refusal.plain number); made = sym (add-zero n) i; after = e i }
 
-all-report : (n : ℕ) (ws : List ℤ) (P : Program) (p : Pool) → ws ≡ wordsOf p → scheduledOf (All n) ws ≡ reported (moreBy n (run P p []))
+all-report : (n : ℕ) (ws : List ℤ) (P : Program) (p : Pool) → ws ≡ wordsOf p → scheduledOf (endedOf (All n)) ws ≡ reported (moreBy n (run P p []))
 unfolding scheduledOf reported stopped run
 all-report n ws P p e = λ i. record { answer = Answer.given tt; made = sym (add-zero n) i; after = e i }
 
@@ -86,7 +100,7 @@ module _ {s places : List ℕ} {ws : List ℤ} {cs : List Choice} where
     pub going-refused : {number : ℕ} → Chooses s places ws′ (c .kind) (c .thread) (Refused number) ws″ → Runs s places ws cs (Stopped n number) ws″
     going-refused {number} h = record { is = λ P p t w v. one P p t (g .at P p t w v) }
       where
-        one : (P : Program) (p : Pool) → Places s P places → GoesOn P p cs n ws′ (c ∷ rest) → scheduledOf (Stopped n number) ws″ ≡ reported (run P p cs)
+        one : (P : Program) (p : Pool) → Places s P places → GoesOn P p cs n ws′ (c ∷ rest) → scheduledOf (endedOf (Stopped n number)) ws″ ≡ reported (run P p cs)
         one P p t q =
             let z = answer-refused ws′ ws″ number (choice P (q .pool) (c .kind) (c .thread)) (h P (q .pool) t (q .words) (q .valid) .called) in
             stopped-report n number ws″ (q .pool) (z .1 ∙ q .words) ∙
@@ -95,5 +109,5 @@ module _ {s places : List ℕ} {ws : List ℤ} {cs : List Choice} where
   pub going-ends : {n : ℕ} {ws′ : List ℤ} → Going s places ws cs n ws′ [] → Runs s places ws cs (All n) ws′
   going-ends {n} {ws′} g = record { is = λ P p t w v. one P p (g .at P p t w v) }
     where
-      one : (P : Program) (p : Pool) → GoesOn P p cs n ws′ [] → scheduledOf (All n) ws′ ≡ reported (run P p cs)
+      one : (P : Program) (p : Pool) → GoesOn P p cs n ws′ [] → scheduledOf (endedOf (All n)) ws′ ≡ reported (run P p cs)
       one P p q = all-report n ws′ P (q .pool) (q .words) ∙ sym (ap reported (q .left))

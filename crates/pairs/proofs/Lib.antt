@@ -1,3 +1,0 @@
-pub mod Going
-pub mod Pairs
-pub mod Lending
