@@ -1,5 +1,6 @@
 pub mod Again
 pub mod ByValue
+pub mod Cells
 pub mod Choices
 pub mod Going
 pub mod Lending

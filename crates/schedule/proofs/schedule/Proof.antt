@@ -3,7 +3,7 @@
 -- functions that it calls is that they meet their contracts.
 use mathlib.Core.Path.{_≡_, refl, ap, subst}
 use mathlib.Core.List.{List, [], _∷_, _++_}
-use Prim.Native.Nat.{ℕ, zero, suc}
+use Prim.Native.Nat.{ℕ}
 use lib.Dec.{lit<}
 use lib.IntN.{ℤ}
 use lib.ListN.{length, replicate}
@@ -70,6 +70,7 @@ use Rattle.schedule.proofs.Scheduled as Σ
 use Rattle.schedule.proofs.Scheduled.Laws as Σ′
 use Rattle.schedule.proofs.Again.{LentAgain, lends-again, comes-back}
 use Rattle.schedule.proofs.ByValue.{told-last}
+use Rattle.schedule.proofs.Cells.{span, Holds, empty, at, cell}
 use Rattle.schedule.proofs.Lending.{schedule-refused, long-pool, schedule-run}
 use Rattle.schedule.proofs.admit as admit
 use Rattle.schedule.proofs.admit.Symbol as admit-def
@@ -92,11 +93,6 @@ use Rattle.schedule.proofs.schedule as schedule
 use Rattle.schedule.proofs.schedule.Statement as stated
 use Rattle.schedule.proofs.schedule.Code as code
 use Rattle.schedule.proofs.schedule.Code.Mir as mir
-
--- n places of the context, from the k-th on
-abbrev span : ℕ → ℕ → List ℕ
-span k zero = []
-span k (suc n) = k ∷ span (suc k) n
 
 -- the arms of the match: what is run and ended, and what is not lent
 abbrev ending : Body
@@ -178,11 +174,6 @@ module _ {M : Type 1} (𝓤 : URA M) (H : Heap 𝓤) (A : Atoms 𝓤) (mem : Mem
 -- the array of places
 abbrev Pl : RattleType
 Pl = Array u16 656
-
--- what a local's cell holds
-data Holds : Type 0 where
-  empty : Holds
-  at : Val → Holds
 
 module _ {M : Type 1} (𝓤 : URA M) (H : Heap 𝓤) (A : Atoms 𝓤) (W : Given 𝓤 H A) (mem : Memory → SProp 𝓤) (go : Routine → Fun 𝓤)
     (κ₀ κ₁ κ₂ : Lft) (q₀ q₁ q₂ : Share) (x₀ : RefT (List ℕ)) (b o : ℕ) (γ : GName) (ws : List ℤ) (x₂ : RefT (List Choice)) where
@@ -325,10 +316,6 @@ module _ {M : Type 1} (𝓤 : URA M) (H : Heap 𝓤) (A : Atoms 𝓤) (W : Given
     En =
         (t₀, l₀) ∷ (t₁, l₁) ∷ (t₂, l₂) ∷ (t₃, l₃) ∷ (t₄, l₄) ∷ (t₅, l₅) ∷ (t₆, l₆) ∷ (t₇, l₇) ∷ (t₈, l₈) ∷ (t₉, l₉) ∷ (t₁₀, l₁₀) ∷
         (t₁₁, l₁₁) ∷ (t₇, l₁₂) ∷ (t₈, l₁₃) ∷ []
-
-    abbrev cell : Ty → ℕ → Holds → Item 𝓤
-    cell t l empty = ‵ (froom t l 0)
-    cell t l (at v) = ‵ (fat fullShare t l 0 v)
 
     -- the locals, the last first, where the parameters stand as they were passed; the array's cell stands behind them
     abbrev Locals : (i₁₃ i₁₂ i₁₁ i₁₀ i₉ i₈ i₇ i₆ i₅ i₀ : Holds) → List (Item 𝓤) → List (Item 𝓤)
