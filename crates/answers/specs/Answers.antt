@@ -1,5 +1,4 @@
 -- The code's refusal and answer as the model's, with document 01's number and place.
-use mathlib.Core.Bool.{Bool, true, false}
 use Rattle.model.specs.Answers as Model
 use Rattle.answers.specs.declared.Refusal.{Refusal}
 use Rattle.answers.specs.declared.Refusal.the-variants.{Plain, Byte, Fault}
@@ -14,7 +13,3 @@ refusalOf (Fault n f b) = Model.Refusal.fault n f b
 abbrev pub answerOf : Answer → Model.Answer (Unit {0})
 answerOf Given = Model.Answer.given tt
 answerOf (Refused r) = Model.Answer.refused (refusalOf r)
-
-abbrev pub isGiven : Answer → Bool
-isGiven Given = true
-isGiven (Refused r) = false

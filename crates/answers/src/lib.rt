@@ -1,7 +1,7 @@
 // What every call answers: document 01's numbers and rules by name, one refusal, and a refusal as one number for hosts.
 ghost use mathlib.Core.Path.{_≡_};
 ghost use Rattle.model.specs.Answers as Model;
-ghost use Rattle.answers.specs.Answers.{refusalOf, isGiven};
+ghost use Rattle.answers.specs.Answers.{refusalOf};
 ghost use Rattle.answers.specs.Coded.{codeOf, given};
 
 // The numbers of what a call can refuse.
@@ -91,16 +91,6 @@ pub enum Refusal {
 pub enum Answer {
     Given,
     Refused(Refusal),
-}
-
-// Is it given?
-pub fn is_given(a: Answer) -> bool
-    ensures { λ r. ⌜ r ≡ isGiven a ⌝ }
-{
-    match a {
-        Answer::Given => true,
-        Answer::Refused(_) => false,
-    }
 }
 
 // 3, with the offset of the first bad byte.

@@ -2,6 +2,7 @@
 use Prim.Native.Nat.{ℕ, _^_, _/_, _%_}
 use mathlib.Core.Bool.{Bool}
 use lib.Dec.{eqb}
+use Rattle.model.specs.Pool as Pool
 
 -- bit 32: the call is given; and the value of what is given, in the low 32 bits
 abbrev pub isGiven : ℕ → Bool
@@ -25,7 +26,7 @@ function r = r / 65536 % 256
 
 -- a pool's length in words; the kinds of a choice
 abbrev pub poolWords : ℕ
-poolWords = 1673
+poolWords = Pool.poolWords
 
 abbrev pub step : ℕ
 step = 0

@@ -81,7 +81,7 @@ module _ (s places : List ℕ) (ws : List ℤ) (l : Lending s places ws) (o : Lo
         values = ended P (x .thread);
         is = f P (x .front) (x .thread) (x .back) k;
         answer = ap (λ (a : Answer Lent). with a (λ (k : Lent). Answer.given (mainValues (k .table) (k .pool)))) (l .is)
-          ∙ ap (λ (z : Option (List ℤ)). Answer.given z) (ap (mainValues P) (x .is) ∙ main-first P (x .front) (x .thread) (x .back) (x .place));
+            ∙ ap (λ (z : Option (List ℤ)). Answer.given z) (ap (mainValues P) (x .is) ∙ main-first P (x .front) (x .thread) (x .back) (x .place));
         few = λ v̄ e. few-ended P (l .table .limits) (x .thread) v̄ e;
       }
 

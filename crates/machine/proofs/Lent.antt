@@ -61,13 +61,15 @@ module _ (s places : List ℕ) (ws : List ℤ) (l : Lending s places ws) where
     unfolding Which made
     which-thread i z =
         let g : Goes (l .what .table) (l .what .pool) i =
-          subst (λ (x : Stepper). FindsStepper s places ws x) z f (l .what .table) (l .what .pool) (l .table) (l .words) (l .valid) in
+        subst (λ (x : Stepper). FindsStepper s places ws x) z f (l .what .table) (l .what .pool) (l .table) (l .words) (l .valid) in
         (g .0, answered i (g .2))
 
     pub which-nobody : r ≡ found.Nobody → Which s ws (Answer.given none)
     unfolding Which made
-    which-nobody z =
-        ((l .what, l .is), λ i h.
-            let g : Stops (l .what .table) (l .what .pool) i =
-              subst (λ (x : Stepper). FindsStepper s places ws x) z f (l .what .table) (l .what .pool) (l .table) (l .words) (l .valid) i in
-            refused-given (sym (answered i (g .1)) ∙ h .1))
+    which-nobody z = (
+      (l .what, l .is),
+      λ i h.
+          let g : Stops (l .what .table) (l .what .pool) i =
+          subst (λ (x : Stepper). FindsStepper s places ws x) z f (l .what .table) (l .what .pool) (l .table) (l .words) (l .valid) i in
+          refused-given (sym (answered i (g .1)) ∙ h .1),
+    )

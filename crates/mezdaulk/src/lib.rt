@@ -12,11 +12,11 @@ ghost use mathlib.Core.Option.{some};
 ghost use lib.Dec.{ltb};
 ghost use lib.ListN.{take};
 ghost use Rattle.model.specs.Answers as Model;
-ghost use Rattle.model.specs.Calls as Calls;
 ghost use Rattle.answers.specs.Answers.{answerOf};
 ghost use Rattle.schedule.specs.Choices.{choicesOf};
-ghost use Rattle.host.specs.Exports.{done, Gives, Finds, Tells, Values};
 ghost use Rattle.host.specs.Exports as Exports;
+ghost use Rattle.host.specs.Exports.{Values};
+ghost use Rattle.host.specs.Contracts as Contracts;
 ghost use Rattle.mezdaulk.specs.Reports.{Reports};
 
 // An answer that gives nothing more, as one number.
@@ -31,7 +31,7 @@ fn done(a: Answer) -> u64
 
 #[no_mangle]
 pub extern "C" fn mezdaulk_read(table: &[u8]) -> u64
-    ensures { λ r. ⌜ r ≡ Exports.done (Model.outcome (Calls.read (now (table .entry)))) ⌝ }
+    ensures { λ r. ⌜ Contracts.Read (now (table .entry)) r ⌝ }
 {
     let mut places = [0u16; 656];
     done(table::read(table, &mut places))
@@ -39,21 +39,21 @@ pub extern "C" fn mezdaulk_read(table: &[u8]) -> u64
 
 #[no_mangle]
 pub extern "C" fn mezdaulk_check(table: &[u8]) -> u64
-    ensures { λ r. ⌜ r ≡ Exports.done (Calls.check (now (table .entry))) ⌝ }
+    ensures { λ r. ⌜ Contracts.Check (now (table .entry)) r ⌝ }
 {
     done(verifier::check(table))
 }
 
 #[no_mangle]
 pub extern "C" fn mezdaulk_start(table: &[u8], pool: &mut [i32]) -> u64
-    ensures { λ r. ⌜ Gives Exports.done (Calls.start (now (table .entry)) (now (pool .entry))) r (now (pool .exit)) ⌝ }
+    ensures { λ r. ⌜ Contracts.Start (now (table .entry)) (now (pool .entry)) r (now (pool .exit)) ⌝ }
 {
     done(machine::start(table, pool))
 }
 
 #[no_mangle]
 pub extern "C" fn mezdaulk_choose(table: &[u8], pool: &mut [i32], kind: u32, thread: u32) -> u64
-    ensures { λ r. ⌜ Gives Exports.ruled (Calls.choose (now (table .entry)) (now (pool .entry)) kind thread) r (now (pool .exit)) ⌝ }
+    ensures { λ r. ⌜ Contracts.Choose (now (table .entry)) (now (pool .entry)) kind thread r (now (pool .exit)) ⌝ }
 {
     match machine::choose(table, pool, kind, thread) {
         Chosen::Rule(rule) => answers::value(rule as u32),
@@ -63,7 +63,7 @@ pub extern "C" fn mezdaulk_choose(table: &[u8], pool: &mut [i32], kind: u32, thr
 
 #[no_mangle]
 pub extern "C" fn mezdaulk_which(table: &[u8], pool: &[i32]) -> u64
-    ensures { λ r. ⌜ Finds (now (table .entry)) (now (pool .entry)) r ⌝ }
+    ensures { λ r. ⌜ Contracts.Which (now (table .entry)) (now (pool .entry)) r ⌝ }
 {
     match machine::which(table, pool) {
         Stepping::Thread(i) => answers::value(i as u32),
@@ -99,7 +99,7 @@ fn put_values(count: u8, found: [i32; 4], values: &mut [i32; 4]) -> u64
 
 #[no_mangle]
 pub extern "C" fn mezdaulk_values(table: &[u8], pool: &[i32], values: &mut [i32; 4]) -> u64
-    ensures { λ r. ⌜ Values (Calls.values (now (table .entry)) (now (pool .entry))) (now (values .entry)) r (now (values .exit)) ⌝ }
+    ensures { λ r. ⌜ Contracts.Values (now (table .entry)) (now (pool .entry)) (now (values .entry)) r (now (values .exit)) ⌝ }
 {
     let m = machine::values(table, pool);
     let found = m.values;
@@ -127,7 +127,7 @@ pub extern "C" fn mezdaulk_schedule(
     choices: &[Choice],
     made: &mut u64,
 ) -> u64
-    ensures { λ r. ⌜ Tells (Calls.schedule (now (table .entry)) (now (pool .entry)) (choicesOf (now (choices .entry)))) r (now (made .exit)) (now (pool .exit)) ⌝ }
+    ensures { λ r. ⌜ Contracts.Schedule (now (table .entry)) (now (pool .entry)) (choicesOf (now (choices .entry))) r (now (made .exit)) (now (pool .exit)) ⌝ }
 {
     report(schedule::schedule(table, pool, choices), made)
 }
