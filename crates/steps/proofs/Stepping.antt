@@ -6,7 +6,8 @@ use mathlib.Core.List.{List}
 use native.Mathlib.Omega.{arith}
 use lib.Dec.{ltb}
 use lib.IntN.{ℤ}
-use lib.ListN.{length}
+use lib.ListN.{length, take}
+use lib.Seq.{take-all}
 use Rattle.model.specs.Numbers as No
 use Rattle.model.specs.Answers.{Answer}
 use Rattle.model.specs.Syntax.{Program}
@@ -99,11 +100,14 @@ module _ {s places : List ℕ} {ws₀ ws : List ℤ} {i : ℕ} (h : Idle s place
       go j false e = (No.thread, on-none (step P) p j (omega (arith, ltb-false j i e, pool-counted P p w v)))
 
 -- what is found in a copy
-pub copy-finds : {s places : List ℕ} {ws c : List ℤ} (d : List ℤ) (r : Stepper) (c′ : List ℤ) → length d ≡ length ws → c ≡ pasted d 0 ws
-    → FindsFirst s places c r c′ → FindsStepper s places ws r
-copy-finds {s} {places} {ws} {c} d r c′ l e f P p q w v =
-    go r (subst (λ (u : List ℤ). FindsFirst s places u r c′) (e ∙ paste-all d ws l) f P p q w v)
+pub copy-finds : {s places : List ℕ} {ws c : List ℤ} (d : List ℤ) (r : Stepper) (c′ : List ℤ) → length ws ≡ poolWords → length d ≡ poolWords
+    → c ≡ pasted d 0 (take poolWords ws) → FindsFirst s places c r c′ → FindsStepper s places ws r
+copy-finds {s} {places} {ws} {c} d r c′ n l e f P p q w v =
+    go r (subst (λ (u : List ℤ). FindsFirst s places u r c′) (e ∙ copied) f P p q w v)
   where
+    copied : pasted d 0 (take poolWords ws) ≡ ws
+    copied = ap (pasted d 0) (take-all poolWords ws (omega arith)) ∙ paste-all d ws (omega arith)
+
     go : (r : Stepper) → First P p ws r c′ → Finds P p r
     go (Thread i) x = x .0
     go Nobody x = x .0

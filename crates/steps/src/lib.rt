@@ -388,6 +388,6 @@ pub fn can_step(s: &[u8], places: &[u16; 656], ws: &[i32]) -> Stepper
     ensures { λ r. ⌜ FindsStepper (now (s .entry)) (now (places .entry)) (now (ws .entry)) r ⌝ }
 {
     let mut copy = [0i32; Pool::WORDS];
-    words::copy(&mut copy, 0, ws);
+    words::copy(&mut copy, 0, &ws[0..Pool::WORDS]);
     first(s, places, &mut copy)
 }
