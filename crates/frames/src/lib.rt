@@ -272,7 +272,7 @@ fn head(f: Frame) -> [i32; Pool::VALUES_AT]
 }
 
 // A frame's words, put into ws from at on.
-pub fn write_frame(ws: &mut [i32], at: usize, f: Frame)
+fn write_frame(ws: &mut [i32], at: usize, f: Frame)
     requires { ⌜ at + frameWords ≤ length (now ws) ⌝ }
     ensures { λ _. ⌜ Wrote (now (ws .entry)) at f (now (ws .exit)) ⌝ }
 {
@@ -379,7 +379,7 @@ pub fn newest_start(ws: &[i32], thread: usize) -> usize
 }
 
 // A count, put into a word.
-pub fn set_count(ws: &mut [i32], at: usize, n: usize)
+fn set_count(ws: &mut [i32], at: usize, n: usize)
     requires { ⌜ (at < length (now ws)) × (n ≤ 256) ⌝ }
     ensures { λ _. ⌜ now (ws .exit) ≡ set (now (ws .entry)) at (pos n) ⌝ }
 {
@@ -387,7 +387,7 @@ pub fn set_count(ws: &mut [i32], at: usize, n: usize)
 }
 
 // A thread with one frame, put into ws from at on.
-pub fn write_thread(ws: &mut [i32], at: usize, f: Frame)
+fn write_thread(ws: &mut [i32], at: usize, f: Frame)
     requires { ⌜ at + threadWords ≤ length (now ws) ⌝ }
     ensures { λ _. ⌜ WroteThread (now (ws .entry)) at f (now (ws .exit)) ⌝ }
 {

@@ -12,7 +12,7 @@ mod grammar;
 mod walk;
 
 // Whether the size is within the limits, and the length field says it.
-pub fn sized(s: &[u8]) -> bool
+fn sized(s: &[u8]) -> bool
     ensures { λ r. ⌜ r ≡ Read.sized (now (s .entry)) ⌝ }
 {
     if s.len() < 6 {

@@ -38,7 +38,7 @@ pub fn wrapping_add(a: i32, b: i32) -> i32
 }
 
 // a - b, its low 32 bits: the bits of b, negated, are added.
-pub fn wrapping_sub(a: i32, b: i32) -> i32
+fn wrapping_sub(a: i32, b: i32) -> i32
     ensures { λ r. ⌜ r ≡ wrap (a -ℤ b) ⌝ }
 {
     let negative = std::num::wrapping_add_u32(u32::MAX - bits(b), 1);
