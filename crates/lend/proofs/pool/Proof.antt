@@ -4,18 +4,6 @@ use Rattle.lend.proofs.Lending.{pool-unlent, pool-given, pool-refused}
 use Rattle.lend.proofs.pool.Statement.{statement}
 use Rattle.lend.proofs.pool.Tie as tie
 
-words-requires : tie.Need-words-requires
-words-requires c κs = search needs
-
-enum-known-why : tie.Need-enum-known-why
-enum-known-why c = search needs
-
-enum-told : tie.Need-enum-told
-enum-told c = search needs
-
-is-pool-requires : tie.Need-is-pool-requires
-is-pool-requires c κs = search needs
-
 returns : tie.Need-returns
 returns c =
     let told = c .before in
@@ -40,4 +28,5 @@ returns-3 c =
 
 pub pool-spec : {M : Type 1} → statement M
 pool-spec =
-    tie.close (tie.spec words-requires enum-known-why enum-told is-pool-requires returns returns-2 returns-3)
+    tie.close
+    (tie.spec (λ c κs. search needs) (λ c. search needs) (λ c. search needs) (λ c κs. search needs) returns returns-2 returns-3)

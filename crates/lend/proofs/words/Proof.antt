@@ -4,15 +4,6 @@ use Rattle.lend.proofs.Lending.{words-unread, words-given, words-refuse
 use Rattle.lend.proofs.words.Statement.{statement}
 use Rattle.lend.proofs.words.Tie as tie
 
-read-requires : tie.Need-read-requires
-read-requires c κs = search needs
-
-enum-known-why : tie.Need-enum-known-why
-enum-known-why c = search needs
-
-enum-told : tie.Need-enum-told
-enum-told c = search needs
-
 returns : tie.Need-returns
 returns c =
     let told = c .before in
@@ -32,4 +23,6 @@ returns-3 c =
     words-refused _ _ _ (read .result) (read .ensures) (told .enum-told .given .1) (c .if1 .left)
 
 pub words-spec : {M : Type 1} → statement M
-words-spec = tie.close (tie.spec read-requires enum-known-why enum-told returns returns-2 returns-3)
+words-spec =
+    tie.close
+    (tie.spec (λ c κs. search needs) (λ c. search needs) (λ c. search needs) returns returns-2 returns-3)

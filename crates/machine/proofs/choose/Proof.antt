@@ -5,38 +5,17 @@ use Rattle.machine.proofs.Lent.{choose-refused, choose-given}
 use Rattle.machine.proofs.choose.Statement.{statement}
 use Rattle.machine.proofs.choose.Tie as tie
 
-pool-requires : tie.Need-pool-requires
-pool-requires c κs = search needs
-
-enum-known-why : tie.Need-enum-known-why
-enum-known-why c = search needs
-
-enum-told : tie.Need-enum-told
-enum-told c = search needs
-
 choice-requires : tie.Need-choice-requires
 choice-requires c κs =
     let told = c .before .before in
     let pool = told .before .before .pool in
     given-pool _ _ _ (pool .result) (pool .ensures) (told .enum-told .given .1) .long
 
-enum-known-rule : tie.Need-enum-known-rule
-enum-known-rule c = search needs
-
-enum-known-number : tie.Need-enum-known-number
-enum-known-number c = search needs
-
-same-length : tie.Need-same-length
-same-length c = search needs
-
 returns : tie.Need-returns
 returns c =
     let told = c .before in
     let pool = told .before .before .pool in
     choose-refused _ _ (refused-pool _ _ _ (pool .result) (pool .ensures) _ (told .why .given .1)) _ _
-
-same-length-2 : tie.Need-same-length-2
-same-length-2 c = search needs
 
 returns-2 : tie.Need-returns-2
 returns-2 c =
@@ -45,9 +24,6 @@ returns-2 c =
     let pool = told .before .before .pool in
     choose-given _ _ _ (given-pool _ _ _ (pool .result) (pool .ensures) (told .enum-told .given .1)) _ _ (choice .choice .result) _ _
     (choice .choice .ensures) (c .before .rule .given .1)
-
-same-length-3 : tie.Need-same-length-3
-same-length-3 c = search needs
 
 returns-3 : tie.Need-returns-3
 returns-3 c =
@@ -60,5 +36,5 @@ returns-3 c =
 pub choose-spec : {M : Type 1} → statement M
 choose-spec =
     tie.close
-    (tie.spec pool-requires enum-known-why enum-told choice-requires enum-known-rule enum-known-number
-    same-length returns same-length-2 returns-2 same-length-3 returns-3)
+    (tie.spec (λ c κs. search needs) (λ c. search needs) (λ c. search needs) choice-requires (λ c. search needs)
+    (λ c. search needs) (λ c. search needs) returns (λ c. search needs) returns-2 (λ c. search needs) returns-3)

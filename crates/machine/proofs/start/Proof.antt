@@ -5,32 +5,17 @@ use Rattle.machine.proofs.Lent.{start-refused, start-given}
 use Rattle.machine.proofs.start.Statement.{statement}
 use Rattle.machine.proofs.start.Tie as tie
 
-words-requires : tie.Need-words-requires
-words-requires c κs = search needs
-
-enum-known-why : tie.Need-enum-known-why
-enum-known-why c = search needs
-
-enum-told : tie.Need-enum-told
-enum-told c = search needs
-
 start-pool-requires : tie.Need-start-pool-requires
 start-pool-requires c κs =
     let told = c .before in
     let words = told .before .before .words in
     long-words _ _ _ (words .result) (words .ensures) (told .enum-told .given .1)
 
-same-length : tie.Need-same-length
-same-length c = search needs
-
 returns : tie.Need-returns
 returns c =
     let told = c .before in
     let words = told .before .before .words in
     start-refused _ _ (refused-words _ _ _ (words .result) (words .ensures) _ (told .why .given .1))
-
-same-length-2 : tie.Need-same-length-2
-same-length-2 c = search needs
 
 returns-2 : tie.Need-returns-2
 returns-2 c =
@@ -41,4 +26,5 @@ returns-2 c =
 pub start-spec : {M : Type 1} → statement M
 start-spec =
     tie.close
-    (tie.spec words-requires enum-known-why enum-told start-pool-requires same-length returns same-length-2 returns-2)
+    (tie.spec (λ c κs. search needs) (λ c. search needs) (λ c. search needs) start-pool-requires (λ c. search needs) returns
+    (λ c. search needs) returns-2)

@@ -7,38 +7,11 @@ use Rattle.machine.proofs.Ended.{main-refused, values-open, values-give
 use Rattle.machine.proofs.values.Statement.{statement}
 use Rattle.machine.proofs.values.Tie as tie
 
-pool-requires : tie.Need-pool-requires
-pool-requires c κs = search needs
-
-enum-known-why : tie.Need-enum-known-why
-enum-known-why c = search needs
-
-without-requires : tie.Need-without-requires
-without-requires c κs = search needs
-
-enum-told : tie.Need-enum-told
-enum-told c = search needs
-
 ended-requires : tie.Need-ended-requires
 ended-requires c κs =
     let told = c .before in
     let pool = told .before .before .pool in
     (given-pool _ _ _ (pool .result) (pool .ensures) (told .enum-told .given .1) .long, search needs)
-
-array-copy-out-t18 : tie.Need-array-copy-out-t18
-array-copy-out-t18 c = search needs
-
-array-copy-out-t21 : tie.Need-array-copy-out-t21
-array-copy-out-t21 c = search needs
-
-array-copy-out-t24 : tie.Need-array-copy-out-t24
-array-copy-out-t24 c = search needs
-
-array-copy-out-t27 : tie.Need-array-copy-out-t27
-array-copy-out-t27 c = search needs
-
-without-requires-2 : tie.Need-without-requires-2
-without-requires-2 c κs = search needs
 
 returns : tie.Need-returns
 returns c =
@@ -73,5 +46,6 @@ returns-3 c =
 pub values-spec : {M : Type 1} → statement M
 values-spec =
     tie.close
-    (tie.spec pool-requires enum-known-why without-requires enum-told ended-requires
-    array-copy-out-t18 array-copy-out-t21 array-copy-out-t24 array-copy-out-t27 without-requires-2 returns returns-2 returns-3)
+    (tie.spec (λ c κs. search needs) (λ c. search needs) (λ c κs. search needs) (λ c. search needs) ended-requires
+    (λ c. search needs) (λ c. search needs) (λ c. search needs) (λ c. search needs) (λ c κs. search needs) returns returns-2
+    returns-3)

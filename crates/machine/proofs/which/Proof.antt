@@ -5,26 +5,11 @@ use Rattle.machine.proofs.Lent.{which-refused, which-thread, which-nobo
 use Rattle.machine.proofs.which.Statement.{statement}
 use Rattle.machine.proofs.which.Tie as tie
 
-pool-requires : tie.Need-pool-requires
-pool-requires c κs = search needs
-
-enum-known-why : tie.Need-enum-known-why
-enum-known-why c = search needs
-
-enum-told : tie.Need-enum-told
-enum-told c = search needs
-
 can-step-requires : tie.Need-can-step-requires
 can-step-requires c κs =
     let told = c .before in
     let pool = told .before .before .pool in
     given-pool _ _ _ (pool .result) (pool .ensures) (told .enum-told .given .1) .long
-
-enum-known-i : tie.Need-enum-known-i
-enum-known-i c = search needs
-
-enum-told-2 : tie.Need-enum-told-2
-enum-told-2 c = search needs
 
 returns : tie.Need-returns
 returns c =
@@ -51,4 +36,5 @@ returns-3 c =
 pub which-spec : {M : Type 1} → statement M
 which-spec =
     tie.close
-    (tie.spec pool-requires enum-known-why enum-told can-step-requires enum-known-i enum-told-2 returns returns-2 returns-3)
+    (tie.spec (λ c κs. search needs) (λ c. search needs) (λ c. search needs) can-step-requires (λ c. search needs)
+    (λ c. search needs) returns returns-2 returns-3)

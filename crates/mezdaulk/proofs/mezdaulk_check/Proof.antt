@@ -5,14 +5,10 @@ use borrow.Author.Needs.{needs}
 use Rattle.mezdaulk.proofs.mezdaulk_check.Statement.{statement}
 use Rattle.mezdaulk.proofs.mezdaulk_check.Tie as tie
 
-check-requires : tie.Need-check-requires
-check-requires c κs = search needs
-
-done-requires : tie.Need-done-requires
-done-requires c κs = search needs
-
 returns : tie.Need-returns
 returns c = c .done .ensures ∙ ap Exports.done (c .before .check .ensures)
 
 pub mezdaulk-check-spec : {M : Type 1} → statement M
-mezdaulk-check-spec = tie.close (tie.spec check-requires done-requires returns)
+mezdaulk-check-spec =
+    tie.close
+    (tie.spec (λ c κs. search needs) (λ c κs. search needs) returns)

@@ -5,14 +5,10 @@ use borrow.Author.Needs.{needs}
 use Rattle.mezdaulk.proofs.mezdaulk_read.Statement.{statement}
 use Rattle.mezdaulk.proofs.mezdaulk_read.Tie as tie
 
-read-requires : tie.Need-read-requires
-read-requires c κs = search needs
-
-done-requires : tie.Need-done-requires
-done-requires c κs = search needs
-
 returns : tie.Need-returns
 returns c = c .done .ensures ∙ ap Exports.done (c .before .read .ensures .answer)
 
 pub mezdaulk-read-spec : {M : Type 1} → statement M
-mezdaulk-read-spec = tie.close (tie.spec read-requires done-requires returns)
+mezdaulk-read-spec =
+    tie.close
+    (tie.spec (λ c κs. search needs) (λ c κs. search needs) returns)

@@ -6,17 +6,10 @@ use borrow.Author.Needs.{needs}
 use Rattle.mezdaulk.proofs.mezdaulk_start.Statement.{statement}
 use Rattle.mezdaulk.proofs.mezdaulk_start.Tie as tie
 
-start-requires : tie.Need-start-requires
-start-requires c κs = search needs
-
-done-requires : tie.Need-done-requires
-done-requires c κs = search needs
-
-same-length : tie.Need-same-length
-same-length c = search needs
-
 returns : tie.Need-returns
 returns c = gives Exports.done _ (c .before .before .start .ensures) (c .done .ensures)
 
 pub mezdaulk-start-spec : {M : Type 1} → statement M
-mezdaulk-start-spec = tie.close (tie.spec start-requires done-requires same-length returns)
+mezdaulk-start-spec =
+    tie.close
+    (tie.spec (λ c κs. search needs) (λ c κs. search needs) (λ c. search needs) returns)

@@ -6,27 +6,6 @@ use borrow.Author.Needs.{needs}
 use Rattle.mezdaulk.proofs.mezdaulk_values.Statement.{statement}
 use Rattle.mezdaulk.proofs.mezdaulk_values.Tie as tie
 
-values-requires : tie.Need-values-requires
-values-requires c κs = search needs
-
-enum-told : tie.Need-enum-told
-enum-told c = search needs
-
-put-values-requires : tie.Need-put-values-requires
-put-values-requires c κs = search needs
-
-enum-told-2 : tie.Need-enum-told-2
-enum-told-2 c = search needs
-
-value-requires : tie.Need-value-requires
-value-requires c κs = search needs
-
-enum-known-state : tie.Need-enum-known-state
-enum-known-state c = search needs
-
-code-requires : tie.Need-code-requires
-code-requires c κs = search needs
-
 returns : tie.Need-returns
 unfolding counted written
 returns c =
@@ -48,5 +27,5 @@ returns-3 c =
 pub mezdaulk-values-spec : {M : Type 1} → statement M
 mezdaulk-values-spec =
     tie.close
-    (tie.spec values-requires enum-told put-values-requires enum-told-2 value-requires enum-known-state code-requires
-    returns returns-2 returns-3)
+    (tie.spec (λ c κs. search needs) (λ c. search needs) (λ c κs. search needs) (λ c. search needs) (λ c κs. search needs)
+    (λ c. search needs) (λ c κs. search needs) returns returns-2 returns-3)

@@ -8,32 +8,11 @@ use borrow.Author.Needs.{needs}
 use Rattle.mezdaulk.proofs.mezdaulk_which.Statement.{statement}
 use Rattle.mezdaulk.proofs.mezdaulk_which.Tie as tie
 
-which-requires : tie.Need-which-requires
-which-requires c κs = search needs
-
-enum-known-i : tie.Need-enum-known-i
-enum-known-i c = search needs
-
 cast-value : tie.Need-cast-value
 unfolding stepperOf
 cast-value c =
     let which = c .before .before .before .which in
     omega (arith, which-there _ _ _ _ (which .ensures) (c .before .i .given .1))
-
-value-requires : tie.Need-value-requires
-value-requires c κs = search needs
-
-enum-told : tie.Need-enum-told
-enum-told c = search needs
-
-value-requires-2 : tie.Need-value-requires-2
-value-requires-2 c κs = search needs
-
-enum-known-why : tie.Need-enum-known-why
-enum-known-why c = search needs
-
-code-requires : tie.Need-code-requires
-code-requires c κs = search needs
 
 returns : tie.Need-returns
 unfolding stepperOf
@@ -56,5 +35,5 @@ returns-3 c =
 pub mezdaulk-which-spec : {M : Type 1} → statement M
 mezdaulk-which-spec =
     tie.close
-    (tie.spec which-requires enum-known-i cast-value value-requires enum-told value-requires-2 enum-known-why code-requires
-    returns returns-2 returns-3)
+    (tie.spec (λ c κs. search needs) (λ c. search needs) cast-value (λ c κs. search needs) (λ c. search needs)
+    (λ c κs. search needs) (λ c. search needs) (λ c κs. search needs) returns returns-2 returns-3)

@@ -5,60 +5,6 @@ use borrow.Author.Needs.{needs, sfits-of}
 use Rattle.mezdaulk.proofs.put_values.Statement.{statement}
 use Rattle.mezdaulk.proofs.put_values.Tie as tie
 
-array-copy-out-value-at : tie.Need-array-copy-out-value-at
-array-copy-out-value-at c = search needs
-
-element-copy-out-value-at : tie.Need-element-copy-out-value-at
-element-copy-out-value-at c = search needs
-
-value-at-requires : tie.Need-value-at-requires
-value-at-requires c κs = search needs
-
-element-set-from-values : tie.Need-element-set-from-values
-element-set-from-values c = search needs
-
-array-copy-out-value-at-2 : tie.Need-array-copy-out-value-at-2
-array-copy-out-value-at-2 c = search needs
-
-element-copy-out-value-at-2 : tie.Need-element-copy-out-value-at-2
-element-copy-out-value-at-2 c = search needs
-
-value-at-requires-2 : tie.Need-value-at-requires-2
-value-at-requires-2 c κs = search needs
-
-element-set-from-values-2 : tie.Need-element-set-from-values-2
-element-set-from-values-2 c = search needs
-
-array-copy-out-value-at-3 : tie.Need-array-copy-out-value-at-3
-array-copy-out-value-at-3 c = search needs
-
-element-copy-out-value-at-3 : tie.Need-element-copy-out-value-at-3
-element-copy-out-value-at-3 c = search needs
-
-value-at-requires-3 : tie.Need-value-at-requires-3
-value-at-requires-3 c κs = search needs
-
-element-set-from-values-3 : tie.Need-element-set-from-values-3
-element-set-from-values-3 c = search needs
-
-array-copy-out-value-at-4 : tie.Need-array-copy-out-value-at-4
-array-copy-out-value-at-4 c = search needs
-
-element-copy-out-value-at-4 : tie.Need-element-copy-out-value-at-4
-element-copy-out-value-at-4 c = search needs
-
-value-at-requires-4 : tie.Need-value-at-requires-4
-value-at-requires-4 c κs = search needs
-
-element-set-from-values-4 : tie.Need-element-set-from-values-4
-element-set-from-values-4 c = search needs
-
-few-requires : tie.Need-few-requires
-few-requires c κs = search needs
-
-value-requires : tie.Need-value-requires
-value-requires c κs = search needs
-
 returns : tie.Need-returns
 returns c =
     let fourth = c .before .before in
@@ -83,8 +29,7 @@ returns c =
 pub put-values-spec : {M : Type 1} → statement M
 put-values-spec =
     tie.close
-    (tie.spec array-copy-out-value-at element-copy-out-value-at value-at-requires element-set-from-values
-    array-copy-out-value-at-2 element-copy-out-value-at-2 value-at-requires-2 element-set-from-values-2
-    array-copy-out-value-at-3 element-copy-out-value-at-3 value-at-requires-3 element-set-from-values-3
-    array-copy-out-value-at-4 element-copy-out-value-at-4 value-at-requires-4 element-set-from-values-4
-    few-requires value-requires returns)
+    (tie.spec (λ c. search needs) (λ c. search needs) (λ c κs. search needs) (λ c. search needs) (λ c. search needs)
+    (λ c. search needs) (λ c κs. search needs) (λ c. search needs) (λ c. search needs) (λ c. search needs)
+    (λ c κs. search needs) (λ c. search needs) (λ c. search needs) (λ c. search needs) (λ c κs. search needs)
+    (λ c. search needs) (λ c κs. search needs) (λ c κs. search needs) returns)

@@ -4,27 +4,6 @@ use Rattle.steps.proofs.Stepping.{copy-finds}
 use Rattle.steps.proofs.can_step.Statement.{statement}
 use Rattle.steps.proofs.can_step.Tie as tie
 
-slice-aggregate-copy : tie.Need-slice-aggregate-copy
-slice-aggregate-copy c = search needs
-
-sub-copy : tie.Need-sub-copy
-sub-copy c = search needs
-
-part-copy-start : tie.Need-part-copy-start
-part-copy-start c = search needs
-
-part-copy-end : tie.Need-part-copy-end
-part-copy-end c = search needs
-
-copy-requires : tie.Need-copy-requires
-copy-requires c κs = search needs
-
-slice-aggregate-first : tie.Need-slice-aggregate-first
-slice-aggregate-first c = search needs
-
-first-requires : tie.Need-first-requires
-first-requires c κs = search needs
-
 -- the part that is copied is all of the words
 returns : tie.Need-returns
 returns c =
@@ -36,4 +15,5 @@ returns c =
 pub can-step-spec : {M : Type 1} → statement M
 can-step-spec =
     tie.close
-    (tie.spec slice-aggregate-copy sub-copy part-copy-start part-copy-end copy-requires slice-aggregate-first first-requires returns)
+    (tie.spec (λ c. search needs) (λ c. search needs) (λ c. search needs) (λ c. search needs) (λ c κs. search needs)
+    (λ c. search needs) (λ c κs. search needs) returns)

@@ -5,28 +5,10 @@ use Rattle.table.proofs.Answered.{no-version, bad-byte, left-over, all-
 use Rattle.table.proofs.body.Statement.{statement}
 use Rattle.table.proofs.body.Tie as tie
 
-byte-requires : tie.Need-byte-requires
-byte-requires c κs = search needs
-
 returns : tie.Need-returns
 returns c =
     let pre = c .before .before .before .pre in
     no-version _ (pre .0) _ (pre .1) (λ e. c .if1 .taken (c .before .byte .ensures ∙ e))
-
-program-requires : tie.Need-program-requires
-program-requires c κs = search needs
-
-enum-known-end : tie.Need-enum-known-end
-enum-known-end c = search needs
-
-bad-byte-requires : tie.Need-bad-byte-requires
-bad-byte-requires c κs = search needs
-
-enum-known-place : tie.Need-enum-known-place
-enum-known-place c = search needs
-
-bad-byte-requires-2 : tie.Need-bad-byte-requires-2
-bad-byte-requires-2 c κs = search needs
 
 -- all was read
 returns-2 : tie.Need-returns-2
@@ -58,5 +40,5 @@ returns-4 c =
 pub body-spec : {M : Type 1} → statement M
 body-spec =
     tie.close
-    (tie.spec byte-requires returns program-requires enum-known-end bad-byte-requires enum-known-place bad-byte-requires-2
-    returns-2 returns-3 returns-4)
+    (tie.spec (λ c κs. search needs) returns (λ c κs. search needs) (λ c. search needs) (λ c κs. search needs)
+    (λ c. search needs) (λ c κs. search needs) returns-2 returns-3 returns-4)

@@ -4,18 +4,6 @@ use Rattle.verifier.proofs.Meaning.{check-refused, check-judged}
 use Rattle.verifier.proofs.check_placed.Statement.{statement}
 use Rattle.verifier.proofs.check_placed.Tie as tie
 
-read-requires : tie.Need-read-requires
-read-requires c κs = search needs
-
-enum-told : tie.Need-enum-told
-enum-told c = search needs
-
-judge-requires : tie.Need-judge-requires
-judge-requires c κs = search needs
-
-enum-known-why : tie.Need-enum-known-why
-enum-known-why c = search needs
-
 returns : tie.Need-returns
 returns c =
     let told = c .before .before in
@@ -29,4 +17,6 @@ returns-2 c =
     check-refused _ _ (read .result) (read .ensures) _ (told .why .given .1)
 
 pub check-placed-spec : {M : Type 1} → statement M
-check-placed-spec = tie.close (tie.spec read-requires enum-told judge-requires enum-known-why returns returns-2)
+check-placed-spec =
+    tie.close
+    (tie.spec (λ c κs. search needs) (λ c. search needs) (λ c κs. search needs) (λ c. search needs) returns returns-2)
