@@ -9,6 +9,7 @@ use Rattle.model.specs.Answers.{Answer}
 use Rattle.model.specs.Calls as Calls
 use Rattle.model.specs.Calls.{Called, Which}
 use Rattle.answers.specs.Coded.{given, codeOf}
+use Rattle.host.specs.Macros.{noThread, stillOpen}
 
 -- an answer that gives nothing more
 unfoldable pub done : Answer (Unit {0}) → ℕ
@@ -20,16 +21,16 @@ unfoldable pub ruled : Answer ℕ → ℕ
 ruled (Answer.given rule) = given rule
 ruled (Answer.refused r) = codeOf r
 
--- the thread that can step; 8 for none
+-- the thread that can step, or that there is none
 unfoldable pub stepperOf : Answer (Option ℕ) → ℕ
 stepperOf (Answer.given (some i)) = given i
-stepperOf (Answer.given none) = given 8
+stepperOf (Answer.given none) = given noThread
 stepperOf (Answer.refused r) = codeOf r
 
--- how many values main has; 255 while they are open
+-- how many values main has, or that they are open
 unfoldable pub counted : Answer (Option (List ℤ)) → ℕ
 counted (Answer.given (some v̄)) = given (length v̄)
-counted (Answer.given none) = given 255
+counted (Answer.given none) = given stillOpen
 counted (Answer.refused r) = codeOf r
 
 -- values in the place of the first words; the words behind them stay

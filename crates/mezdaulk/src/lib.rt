@@ -19,6 +19,11 @@ ghost use Rattle.host.specs.Exports.{Values};
 ghost use Rattle.host.specs.Contracts as Contracts;
 ghost use Rattle.mezdaulk.specs.Reports.{Reports};
 
+// The value of `mezdaulk_which` where no thread can step, and of `mezdaulk_values` while main's values are open.
+const NO_THREAD: u32 = 8;
+
+const OPEN: u32 = 255;
+
 // An answer that gives nothing more, as one number.
 fn done(a: Answer) -> u64
     ensures { λ r. ⌜ r ≡ Exports.done (answerOf a) ⌝ }
@@ -67,7 +72,7 @@ pub extern "C" fn mezdaulk_which(table: &[u8], pool: &[i32]) -> u64
 {
     match machine::which(table, pool) {
         Stepping::Thread(i) => answers::value(i as u32),
-        Stepping::Nobody => answers::value(8),
+        Stepping::Nobody => answers::value(NO_THREAD),
         Stepping::Refused(why) => answers::code(why),
     }
 }
@@ -106,7 +111,7 @@ pub extern "C" fn mezdaulk_values(table: &[u8], pool: &[i32], values: &mut [i32;
     let state = m.state;
     match state {
         State::Given => put_values(m.count, found, values),
-        State::Open => answers::value(255),
+        State::Open => answers::value(OPEN),
         State::Refused(why) => answers::code(why),
     }
 }
