@@ -60,7 +60,10 @@ impl Tally {
     }
 
     pub fn event(&mut self, name: &str) {
-        *self.events.entry(name.to_string()).or_insert(0) += 1;
+        match self.events.get_mut(name) {
+            Some(count) => *count += 1,
+            None => _ = self.events.insert(name.to_string(), 1),
+        }
     }
 
     /// Prints the counts; what never occurred is a failure.

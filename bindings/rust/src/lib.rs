@@ -11,7 +11,8 @@ pub struct Choice {
     pub thread: u32,
 }
 
-mod raw {
+/// The exported functions, as include/mezdaulk.h declares them.
+pub mod raw {
     use super::Choice;
     extern "C" {
         pub fn mezdaulk_read(table: *const u8, bytes: usize) -> u64;

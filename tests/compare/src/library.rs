@@ -1,58 +1,127 @@
-//! The library as a machine, with a count of what it answers.
+//! The library as a machine. Every call is made by the exported function, on
+//! copies of the memory and with the laws asserted, and then by the wrapper.
 
-use mezdaulk::Refusal as Given;
-use oracle::gen::schedules::Choice;
+use crate::laws::{answer_in, stops, Call, Laws, CHECK, READ, WHICH};
+use crate::lent::Lent;
+use mezdaulk::{raw, Choice, Refusal as Wrapped};
+use oracle::gen::schedules::Choice as Pair;
 use oracle::machine::Machine;
-use oracle::refusal::Refusal;
 use oracle::tally::Tally;
-use std::cell::RefCell;
+use oracle::Refusal;
+use std::cell::{RefCell, RefMut};
 
-/// The library, and its answers since they were last counted: rules and
-/// refusals by number.
+/// The library, and what was asserted of its answers since they were last
+/// counted.
 #[derive(Default)]
 pub struct Library {
-    answers: RefCell<Vec<Result<u8, u8>>>,
+    laws: RefCell<Laws>,
 }
 
+/// What stands beside the memory lent; beside choices a step, which would be
+/// made.
+const BYTE: u8 = 0xA5;
+const WORD: i32 = 0x5A5A_5A5A;
+const COUNT: u64 = 0x5A5A_5A5A_5A5A_5A5A;
+const STEP: Choice = Choice { kind: 0, thread: 0 };
+
+// In every call of an exported function below, the pointers are valid for the
+// lengths beside them, and what is lent for writing overlaps nothing.
 impl Library {
     /// Counts the answers given since this was last asked.
     pub fn count(&self, tally: &mut Tally) {
-        for answer in self.answers.take() {
-            tally.answer(answer);
-        }
+        self.laws().count(tally);
     }
 
-    /// An answer as the second implementation writes it; a refusal is noted.
-    fn noted<T>(&self, answer: Result<T, Given>) -> Result<T, Refusal> {
-        answer.map_err(|given| {
-            self.answers.borrow_mut().push(Err(given.number()));
-            match given {
-                Given::Plain(number) => Refusal::plain(number),
-                Given::Byte(at) => Refusal::byte(at),
-                Given::Fault(number, function, block) => {
-                    Refusal::fault(number, function.into(), block.into())
-                }
-            }
-        })
+    fn laws(&self) -> RefMut<'_, Laws> {
+        self.laws.borrow_mut()
+    }
+
+    /// The answer in a number; the wrapper's must be the same, and the words
+    /// that it leaves.
+    fn answer(
+        &self,
+        number: u64,
+        wrapped: Result<u32, Wrapped>,
+        same_words: bool,
+    ) -> Result<u32, Refusal> {
+        let answer = answer_in(number);
+        let same_answer = wrapped.map_err(refusal) == answer;
+        self.laws().wrapped(number, same_answer && same_words);
+        answer
+    }
+
+    /// A call on a table alone.
+    fn asked(
+        &self,
+        call: &'static Call,
+        table: &[u8],
+        exported: unsafe extern "C" fn(*const u8, usize) -> u64,
+        wrapper: fn(&[u8]) -> Result<(), Wrapped>,
+    ) -> Result<(), Refusal> {
+        let mut bytes = Lent::new(table, BYTE);
+        let number = unsafe { exported(bytes.pointer(), table.len()) };
+        self.laws().answer(call, table, number);
+        let only_read = bytes.left() == table;
+        self.laws().memory(number, only_read, bytes.guarded());
+        let wrapped = wrapper(table).map(|()| 0);
+        self.answer(number, wrapped, true).map(|_| ())
+    }
+
+    /// The number that a choice gets.
+    fn chosen(&self, table: &[u8], pool: &mut [i32], choice: Choice) -> u64 {
+        let Choice { kind, thread } = choice;
+        let (mut bytes, mut words) = (Lent::new(table, BYTE), Lent::new(pool, WORD));
+        let (t, p) = (bytes.pointer(), words.pointer());
+        let number = unsafe { raw::mezdaulk_choose(t, table.len(), p, pool.len(), kind, thread) };
+        self.laws()
+            .choose(table, pool, choice, number, words.left());
+        let around = bytes.guarded() && words.guarded();
+        self.laws().memory(number, bytes.left() == table, around);
+        let wrapped = mezdaulk::choose(table, pool, kind, thread).map(u32::from);
+        _ = self.answer(number, wrapped, pool == words.left());
+        number
     }
 }
 
-/// A kind or a thread, which is within 32 bits.
-fn narrow(number: u64) -> u32 {
-    u32::try_from(number).expect("choices are cut to 32 bits")
+/// The wrapper's refusal as the second implementation writes it.
+fn refusal(wrapped: Wrapped) -> Refusal {
+    match wrapped {
+        Wrapped::Plain(number) => Refusal::plain(number),
+        Wrapped::Byte(at) => Refusal::byte(at),
+        Wrapped::Fault(number, function, block) => {
+            Refusal::fault(number, function.into(), block.into())
+        }
+    }
+}
+
+/// A choice, whose kind and thread are within 32 bits.
+fn narrow((kind, thread): Pair) -> Choice {
+    let number = |wide| u32::try_from(wide).expect("choices are cut to 32 bits");
+    Choice {
+        kind: number(kind),
+        thread: number(thread),
+    }
 }
 
 impl Machine for Library {
     fn read(&self, table: &[u8]) -> Result<(), Refusal> {
-        self.noted(mezdaulk::read(table))
+        self.asked(&READ, table, raw::mezdaulk_read, mezdaulk::read)
     }
 
     fn check(&self, table: &[u8]) -> Result<(), Refusal> {
-        self.noted(mezdaulk::check(table))
+        self.asked(&CHECK, table, raw::mezdaulk_check, mezdaulk::check)
     }
 
     fn start(&self, table: &[u8], pool: &mut [i32]) -> Result<(), Refusal> {
-        self.noted(mezdaulk::start(table, pool))
+        let (mut bytes, mut words) = (Lent::new(table, BYTE), Lent::new(pool, WORD));
+        let (t, p) = (bytes.pointer(), words.pointer());
+        let number = unsafe { raw::mezdaulk_start(t, table.len(), p, pool.len()) };
+        self.laws().start(table, pool, number, words.left());
+        let around = bytes.guarded() && words.guarded();
+        self.laws().memory(number, bytes.left() == table, around);
+        let wrapped = mezdaulk::start(table, pool).map(|()| 0);
+        let same_words = pool == words.left();
+        self.answer(number, wrapped, same_words).map(|_| ())
     }
 
     fn choose(
@@ -62,15 +131,21 @@ impl Machine for Library {
         kind: u64,
         thread: u64,
     ) -> Result<u8, Refusal> {
-        let answer = mezdaulk::choose(table, pool, narrow(kind), narrow(thread));
-        if let Ok(rule) = answer {
-            self.answers.borrow_mut().push(Ok(rule));
-        }
-        self.noted(answer)
+        let number = self.chosen(table, pool, narrow((kind, thread)));
+        answer_in(number).map(|rule| rule as u8)
     }
 
     fn can_step(&self, table: &[u8], pool: &[i32]) -> Result<Option<usize>, Refusal> {
-        self.noted(mezdaulk::which(table, pool))
+        let (mut bytes, mut words) = (Lent::new(table, BYTE), Lent::new(pool, WORD));
+        let (t, p) = (bytes.pointer(), words.pointer());
+        let number = unsafe { raw::mezdaulk_which(t, table.len(), p, pool.len()) };
+        self.laws().answer(&WHICH, table, number);
+        let only_read = bytes.left() == table && words.left() == pool;
+        let around = bytes.guarded() && words.guarded();
+        self.laws().memory(number, only_read, around);
+        let wrapped = mezdaulk::which(table, pool).map(|thread| thread.map_or(8, |t| t as u32));
+        let answer = self.answer(number, wrapped, true);
+        answer.map(|thread| (thread != 8).then_some(thread as usize))
     }
 
     fn values(
@@ -79,26 +154,47 @@ impl Machine for Library {
         pool: &[i32],
         room: &mut [i32; 4],
     ) -> Result<Option<usize>, Refusal> {
-        self.noted(mezdaulk::values_into(table, pool, room))
+        let (mut bytes, mut words) = (Lent::new(table, BYTE), Lent::new(pool, WORD));
+        let mut values = Lent::new(room, WORD);
+        let (t, p, v) = (bytes.pointer(), words.pointer(), values.pointer());
+        let number = unsafe { raw::mezdaulk_values(t, table.len(), p, pool.len(), v) };
+        self.laws().values(table, room, number, values.left());
+        let only_read = bytes.left() == table && words.left() == pool;
+        let around = bytes.guarded() && words.guarded() && values.guarded();
+        self.laws().memory(number, only_read, around);
+        let wrapped = mezdaulk::values_into(table, pool, room)
+            .map(|count| count.map_or(255, |count| count as u32));
+        let answer = self.answer(number, wrapped, room == values.left());
+        answer.map(|count| (count != 255).then_some(count as usize))
     }
 
     fn schedule(
         &self,
         table: &[u8],
         pool: &mut [i32],
-        choices: &[Choice],
+        choices: &[Pair],
         made: &mut u64,
     ) -> Result<(), Refusal> {
-        let choices: Vec<mezdaulk::Choice> = choices
-            .iter()
-            .map(|&(kind, thread)| mezdaulk::Choice {
-                kind: narrow(kind),
-                thread: narrow(thread),
-            })
-            .collect();
-        let (count, answer) = mezdaulk::schedule(table, pool, &choices);
-        *made = count;
-        self.noted(answer)
+        let choices: Vec<Choice> = choices.iter().copied().map(narrow).collect();
+        let (mut bytes, mut words) = (Lent::new(table, BYTE), Lent::new(pool, WORD));
+        let (mut list, mut count) = (Lent::new(&choices, STEP), Lent::new(&[*made], COUNT));
+        let (t, p) = (bytes.pointer(), words.pointer());
+        let (l, c) = (list.pointer(), count.pointer());
+        let number =
+            unsafe { raw::mezdaulk_schedule(t, table.len(), p, pool.len(), l, choices.len(), c) };
+        *made = count.left()[0];
+        let stopped = choices.get(*made as usize).filter(|_| stops(number));
+        let again = stopped.map(|&choice| self.chosen(table, &mut words.left().to_vec(), choice));
+        let all = choices.len() as u64;
+        self.laws()
+            .schedule(table, pool, number, words.left(), (*made, all), again);
+        let only_read = bytes.left() == table && list.left() == choices;
+        let around = bytes.guarded() && words.guarded() && list.guarded() && count.guarded();
+        self.laws().memory(number, only_read, around);
+        let (wrapped_made, wrapped) = mezdaulk::schedule(table, pool, &choices);
+        let same_words = pool == words.left() && wrapped_made == *made;
+        self.answer(number, wrapped.map(|()| 0), same_words)
+            .map(|_| ())
     }
 
     fn widest(&self) -> u64 {

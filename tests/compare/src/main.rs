@@ -1,10 +1,13 @@
 //! Puts random tables, pools and choices to every call of the library and of
 //! the second implementation and compares the answers, refusals with their
-//! places, and what is written; then asserts demand 3 of the library on random
-//! runs of accepted tables.
+//! places, and what is written; asserts the laws of every number answered and
+//! of the memory lent; and asserts demand 3 of the library on random runs of
+//! accepted tables.
 //!
 //! `compare SEED COUNT`; the last line is `compare: N passed, M failed`.
 
+mod laws;
+mod lent;
 mod library;
 mod runs;
 
@@ -52,8 +55,8 @@ fn events() -> Vec<String> {
     events.extend(Source::ALL.map(|source| format!("scenario {source:?}")));
     events.extend(NOTES.map(String::from));
     let others = [FULL_SIZE, PAIR, LONG];
-    let run = [runs::RETURNED, runs::LONG, runs::FULL, runs::REFUSED];
-    events.extend(others.into_iter().chain(run).map(String::from));
+    events.extend(laws::events());
+    events.extend(others.into_iter().chain(runs::EVENTS).map(String::from));
     events
 }
 

@@ -1,22 +1,27 @@
-//! Demand 3 of a machine's own functions, on random runs of accepted tables:
-//! the second implementation chooses and looks at the pool, the machine
-//! answers.
+//! Demand 3 of a machine's own functions, as `crates/host/specs/Sessions.antt`
+//! states it, on random runs of accepted tables. The second implementation
+//! chooses and makes the same run, and every answer is compared with its own.
 
 use oracle::encode::encode;
 use oracle::gen::schedules::{guided_choice, guided_schedule, Choice, Order, Policy};
 use oracle::machine::Machine;
 use oracle::pool::Pool;
 use oracle::rng::Rng;
-use oracle::rules::{self, ended, PROMOTE, STEP};
+use oracle::rules::{self, ended, steppable, Rule, PROMOTE, STEP};
 use oracle::table::Program;
 use oracle::tally::Tally;
 use oracle::watch::{self, join, join_event};
 use oracle::{Refusal, POOL_WORDS};
 
-pub const RETURNED: &str = "run that returned";
-pub const LONG: &str = "run of 1000 choices that goes on";
-pub const FULL: &str = "run with every thread at a full stack";
-pub const REFUSED: &str = "run that goes on after a refusal";
+/// What must occur, by name.
+pub const EVENTS: [&str; 6] = [RETURNED, LONG, FULL, REFUSED, WAITS, WAITS_FULL];
+
+const RETURNED: &str = "run that returned";
+const LONG: &str = "run of 1000 choices that goes on";
+const FULL: &str = "run with every thread at a full stack";
+const REFUSED: &str = "run that goes on after a refusal";
+const WAITS: &str = "run with a thread that waits, and one that can step";
+const WAITS_FULL: &str = "run with a thread that waits, and none but full stacks";
 
 /// A run of an accepted table on a machine.
 struct Run<'a> {
@@ -24,6 +29,8 @@ struct Run<'a> {
     program: &'a Program,
     table: Vec<u8>,
     words: Vec<i32>,
+    /// The second implementation's pool, which the words must hold.
+    pool: Pool,
 }
 
 /// Starts a run and puts some lists of choices to it, refused ones among
@@ -34,7 +41,11 @@ pub fn check_run(tally: &mut Tally, machine: &dyn Machine, rng: &mut Rng, progra
         program,
         table: encode(program),
         words: (0..POOL_WORDS).map(|_| rng.bits() as i32).collect(),
+        pool: Pool::start(),
     };
+    tally.expect(oracle::check(&run.table).is_ok(), || {
+        format!("a faulty table: {:02x?}", run.table)
+    });
     let checked = machine.check(&run.table);
     tally.expect(checked.is_ok(), || format!("not accepted: {checked:?}"));
     let started = machine.start(&run.table, &mut run.words);
@@ -64,11 +75,14 @@ fn policy(rng: &mut Rng) -> Policy {
 }
 
 impl Run<'_> {
-    /// The pool as the second implementation sees it.
-    fn view(&self, tally: &mut Tally) -> Option<Pool> {
-        let pool = Pool::from_words(self.program, &self.words);
-        tally.expect(pool.is_ok(), || format!("a run leaves {pool:?}"));
-        pool.ok()
+    /// Whether the words hold the second implementation's pool.
+    fn agrees(&self, tally: &mut Tally) -> bool {
+        let held = Pool::from_words(self.program, &self.words);
+        let same = held.as_ref() == Ok(&self.pool);
+        tally.expect(same, || {
+            format!("a run leaves {held:?}, {:?} is right", self.pool)
+        });
+        same
     }
 
     /// Choices one after another.
@@ -77,21 +91,21 @@ impl Run<'_> {
         let mut refused = false;
         let mut left = length;
         while left > 0 {
-            let Some(pool) = self.view(tally) else {
+            if !self.agrees(tally) {
                 return;
-            };
-            if ended(self.program, &pool.root).is_some() {
+            }
+            if ended(self.program, &self.pool.root).is_some() {
                 left = left.min(3);
             }
             left -= 1;
-            let (kind, thread) = guided_choice(rng, self.program, &pool, policy);
-            let widest = self.machine.widest();
-            let choice = (kind.min(widest), thread.min(widest));
-            check_join(tally, self.program, pool, choice);
+            let choice = guided_choice(rng, self.program, &self.pool, policy);
+            let choice = self.within(choice);
+            let due = self.due(tally, choice);
             let answer = self
                 .machine
                 .choose(&self.table, &mut self.words, choice.0, choice.1);
-            check_answer(tally, choice, answer);
+            check_same(tally, choice, answer, due);
+            self.check_answer(tally, choice, answer);
             if answer.is_ok() && refused {
                 tally.event(REFUSED);
             }
@@ -107,83 +121,156 @@ impl Run<'_> {
 
     /// Choices as one schedule, up to and with the first refused.
     fn schedule(&mut self, tally: &mut Tally, rng: &mut Rng, length: usize) {
-        let Some(mut pool) = self.view(tally) else {
-            return;
-        };
         let refused = rng.chance(50);
-        let widest = self.machine.widest();
-        let choices: Vec<Choice> = guided_schedule(rng, self.program, &pool, length, refused)
+        let choices: Vec<Choice> = guided_schedule(rng, self.program, &self.pool, length, refused)
             .into_iter()
-            .map(|(kind, thread)| (kind.min(widest), thread.min(widest)))
+            .map(|choice| self.within(choice))
             .collect();
         let mut made = u64::MAX;
         let answer = self
             .machine
             .schedule(&self.table, &mut self.words, &choices, &mut made);
-        let mut due = 0;
+        let mut due_made = 0;
+        let mut due = Ok(());
         for &choice in &choices {
-            check_join(tally, self.program, pool.clone(), choice);
-            match rules::choose(self.program, &mut pool, choice.0, choice.1) {
-                Ok(_) => due += 1,
-                Err(_) => break,
+            due = self.due(tally, choice).map(|_| ());
+            if due.is_err() {
+                break;
             }
+            due_made += 1;
         }
-        tally.expect(made == due, || format!("{made} made, {due} due"));
-        let last = choices.get(made as usize).copied();
-        match (answer, last) {
+        tally.expect((made, answer) == (due_made, due), || {
+            format!("{made} made, {answer:?} given; {due_made}, {due:?} is right")
+        });
+        match (answer, choices.get(made as usize)) {
             (Ok(()), None) => {}
-            (Err(refusal), Some(choice)) => check_answer(tally, choice, Err(refusal)),
+            (Err(refusal), Some(&choice)) => self.check_answer(tally, choice, Err(refusal)),
             _ => tally.expect(false, || format!("{made} made, {answer:?} given")),
+        }
+    }
+
+    /// A choice cut to what the machine takes.
+    fn within(&self, (kind, thread): Choice) -> Choice {
+        let widest = self.machine.widest();
+        (kind.min(widest), thread.min(widest))
+    }
+
+    /// Makes a choice in the second implementation's pool.
+    fn due(&mut self, tally: &mut Tally, choice: Choice) -> Result<u8, Refusal> {
+        check_join(tally, self.program, &mut self.pool, choice);
+        choose(self.program, &mut self.pool, choice)
+    }
+
+    /// A choice of a run makes a rule of its kind, or gets one of 14 to 18, 20
+    /// and 21: nothing is ever stuck. Where it gets 17, some thread can step
+    /// or gets 18.
+    fn check_answer(&self, tally: &mut Tally, choice: Choice, answer: Result<u8, Refusal>) {
+        let fits = match (choice.0, answer.map_err(|refusal| refusal.number)) {
+            (STEP, answer) => matches!(answer, Ok(1..=9) | Err(15..=18)),
+            (PROMOTE, answer) => matches!(answer, Ok(10) | Err(15 | 20 | 21)),
+            (_, answer) => answer == Err(14),
+        };
+        tally.expect(fits, || format!("{choice:?} gets {answer:?}"));
+        if answer == Err(Refusal::plain(17)) {
+            let steps = (0..8).any(|thread| matches!(self.step(tally, thread), Ok(1..=9)));
+            let full = !steps && self.out_of_frames(tally);
+            tally.expect(steps || full, || {
+                format!("{choice:?} waits for nothing: {:?}", self.words)
+            });
+            tally.event(if steps { WAITS } else { WAITS_FULL });
         }
     }
 
     /// Main has returned as many values as declared, or a thread can step, or
     /// some thread is at a call with all frames in use.
     fn stands(&self, tally: &mut Tally) {
-        let declared = usize::from(self.program.functions[0].returns);
-        match self.machine.values(&self.table, &self.words, &mut [0; 4]) {
-            Ok(Some(count)) => {
-                tally.expect(count == declared, || {
-                    format!("main gives {count} values, {declared} declared")
-                });
-                tally.event(RETURNED);
-            }
-            Ok(None) => self.goes_on(tally),
-            Err(refusal) => tally.expect(false, || format!("values: {refusal:?}")),
-        }
-    }
-
-    fn goes_on(&self, tally: &mut Tally) {
-        match self.machine.can_step(&self.table, &self.words) {
+        self.agrees(tally);
+        let returned = self.returned(tally);
+        let which = self.machine.can_step(&self.table, &self.words);
+        let due = steppable(self.program, &self.pool);
+        match which {
             Ok(Some(thread)) => {
-                let answer = self.step(thread as u64);
-                tally.expect(matches!(answer, Ok(1..=9)), || {
-                    format!("thread {thread} can step, and gets {answer:?}")
+                let answer = self.step(tally, thread as u64);
+                tally.expect(matches!(answer, Ok(1..=9)) && due.contains(&thread), || {
+                    format!("thread {thread} can step, and gets {answer:?}; {due:?} can")
                 });
             }
             Ok(None) => {
-                let full = (0..8).any(|thread| self.step(thread) == Err(Refusal::plain(18)));
-                tally.expect(full, || format!("no progress: {:?}", self.words));
-                tally.event(FULL);
+                let stands = returned || self.out_of_frames(tally);
+                tally.expect(stands && due.is_empty(), || {
+                    format!("no progress: {:?}; {due:?} can step", self.words)
+                });
             }
             Err(refusal) => tally.expect(false, || format!("can step: {refusal:?}")),
         }
-        if let Some(pool) = self.view(tally) {
-            for event in watch::reached(&pool) {
+        if !returned {
+            if which == Ok(None) {
+                tally.event(FULL);
+            }
+            for event in watch::reached(&self.pool) {
                 tally.event(event);
             }
         }
     }
 
-    /// A step on a copy of the pool.
-    fn step(&self, thread: u64) -> Result<u8, Refusal> {
-        self.machine
-            .choose(&self.table, &mut self.words.clone(), STEP, thread)
+    /// Whether main has returned, with the second implementation's values and
+    /// as many as byte 7 of the table declares.
+    fn returned(&self, tally: &mut Tally) -> bool {
+        let mut room = [0; 4];
+        let answer = self.machine.values(&self.table, &self.words, &mut room);
+        let due = ended(self.program, &self.pool.root);
+        let given = answer.map(|count| count.map(|count| room[..count.min(4)].to_vec()));
+        tally.expect(given.as_ref() == Ok(&due), || {
+            format!("values: {given:?} given, {due:?} is right")
+        });
+        let Ok(Some(count)) = answer else {
+            return false;
+        };
+        let declared = self.table[7];
+        tally.expect(count <= 4 && count == usize::from(declared), || {
+            format!("main gives {count} values, {declared} declared")
+        });
+        tally.event(RETURNED);
+        true
+    }
+
+    /// Whether a step of some thread gets 18.
+    fn out_of_frames(&self, tally: &mut Tally) -> bool {
+        (0..8).any(|thread| self.step(tally, thread) == Err(Refusal::plain(18)))
+    }
+
+    /// A step on copies of the words and the pool.
+    fn step(&self, tally: &mut Tally, thread: u64) -> Result<u8, Refusal> {
+        let answer = self
+            .machine
+            .choose(&self.table, &mut self.words.clone(), STEP, thread);
+        let choice = (STEP, thread);
+        let due = choose(self.program, &mut self.pool.clone(), choice);
+        check_same(tally, choice, answer, due);
+        answer
     }
 }
 
+/// A choice in the second implementation's pool.
+fn choose(program: &Program, pool: &mut Pool, choice: Choice) -> Result<u8, Refusal> {
+    rules::choose(program, pool, choice.0, choice.1)
+        .map(Rule::number)
+        .map_err(Refusal::plain)
+}
+
+fn check_same(
+    tally: &mut Tally,
+    choice: Choice,
+    answer: Result<u8, Refusal>,
+    due: Result<u8, Refusal>,
+) {
+    tally.expect(answer == due, || {
+        format!("{choice:?} gets {answer:?}, {due:?} is right")
+    });
+}
+
 /// A join brings as many values as the block behind it takes.
-fn check_join(tally: &mut Tally, program: &Program, mut pool: Pool, (kind, thread): Choice) {
+fn check_join(tally: &mut Tally, program: &Program, pool: &mut Pool, (kind, thread): Choice) {
     if kind != STEP {
         return;
     }
@@ -196,15 +283,4 @@ fn check_join(tally: &mut Tally, program: &Program, mut pool: Pool, (kind, threa
         });
         tally.event(&join_event(brought));
     }
-}
-
-/// A choice of a run makes a rule of its kind, or gets one of 14 to 18, 20
-/// and 21: nothing is ever stuck.
-fn check_answer(tally: &mut Tally, (kind, thread): Choice, answer: Result<u8, Refusal>) {
-    let fits = match (kind, answer.map_err(|refusal| refusal.number)) {
-        (STEP, answer) => matches!(answer, Ok(1..=9) | Err(15..=18)),
-        (PROMOTE, answer) => matches!(answer, Ok(10) | Err(15 | 20 | 21)),
-        (_, answer) => answer == Err(14),
-    };
-    tally.expect(fits, || format!("({kind}, {thread}) gets {answer:?}"));
 }

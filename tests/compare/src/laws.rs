@@ -1,0 +1,292 @@
+//! What `crates/host/specs/Laws.antt` states and `include/mezdaulk.h` says of
+//! the number that a call answered and of the memory lent to it.
+
+use mezdaulk::Choice;
+use oracle::tally::Tally;
+use oracle::Refusal;
+
+/// The header's constants and, below, its macros of a number answered.
+const POOL_WORDS: usize = 1673;
+const PROMOTE: u32 = 1;
+const OPEN: u32 = 255;
+
+fn is_given(number: u64) -> bool {
+    number >> 32 & 1 == 1
+}
+
+fn value(number: u64) -> u32 {
+    (number & 0xFFFF_FFFF) as u32
+}
+
+fn refused(number: u64) -> u8 {
+    (number & 0xFF) as u8
+}
+
+fn place(number: u64) -> usize {
+    (number >> 8 & 0xFF_FFFF) as usize
+}
+
+fn block(number: u64) -> usize {
+    (number >> 8 & 0xFF) as usize
+}
+
+fn function(number: u64) -> usize {
+    (number >> 16 & 0xFF) as usize
+}
+
+/// Whether a list of choices stopped at one: 14 and more.
+pub fn stops(number: u64) -> bool {
+    !is_given(number) && refused(number) >= 14
+}
+
+/// What the macros read in a number.
+pub fn answer_in(number: u64) -> Result<u32, Refusal> {
+    if is_given(number) {
+        return Ok(value(number));
+    }
+    Err(match refused(number) {
+        3 => Refusal::byte(place(number)),
+        fault @ 4..=11 => Refusal::fault(fault, function(number), block(number)),
+        plain => Refusal::plain(plain),
+    })
+}
+
+/// A call, the values that it can give and the numbers it can refuse with, as
+/// ranges.
+pub struct Call {
+    name: &'static str,
+    values: &'static [(u32, u32)],
+    numbers: &'static [(u8, u8)],
+}
+
+pub const READ: Call = call("read", &[(0, 0)], &[(1, 3)]);
+pub const CHECK: Call = call("check", &[(0, 0)], &[(1, 11)]);
+const START: Call = call("start", &[(0, 0)], &[(1, 3), (12, 12)]);
+const CHOOSE: Call = call("choose", &[(1, 10)], &[(1, 3), (12, 21)]);
+pub const WHICH: Call = call("which", &[(0, 8)], &[(1, 3), (12, 13)]);
+const VALUES: Call = call("values", &[(0, 4), (OPEN, OPEN)], &[(1, 3), (12, 13)]);
+const SCHEDULE: Call = call("schedule", &[(0, 0)], &[(1, 3), (12, 21)]);
+
+const fn call(
+    name: &'static str,
+    values: &'static [(u32, u32)],
+    numbers: &'static [(u8, u8)],
+) -> Call {
+    Call {
+        name,
+        values,
+        numbers,
+    }
+}
+
+impl Call {
+    fn can(&self, answer: Result<u32, u8>) -> bool {
+        match answer {
+            Ok(value) => within(self.values, value),
+            Err(number) => within(self.numbers, number),
+        }
+    }
+
+    /// The name of an answer's event.
+    fn event(&self, answer: Result<u32, u8>) -> String {
+        match answer {
+            Ok(value) => format!("{} gives {value}", self.name),
+            Err(number) => format!("{} refuses {number}", self.name),
+        }
+    }
+
+    /// The events of all answers that there can be.
+    fn events(&self) -> impl Iterator<Item = String> + '_ {
+        let given = self.values.iter().flat_map(|&(from, to)| from..=to).map(Ok);
+        let refused = self.numbers.iter().flat_map(|&(from, to)| from..=to);
+        given
+            .chain(refused.map(Err))
+            .map(|answer| self.event(answer))
+    }
+}
+
+fn within<T: PartialOrd>(ranges: &[(T, T)], number: T) -> bool {
+    ranges
+        .iter()
+        .any(|(from, to)| *from <= number && number <= *to)
+}
+
+const UNUSED: &str = "law: unused bits are 0";
+const PLACED: &str = "law: the place of a 3 is in the table or its length";
+const AT_BLOCK: &str = "law: a fault at a block below 32";
+const AT_SPAWN: &str = "law: a fault at a spawn call, with block 255";
+const AT_MAIN: &str = "law: a fault of main, with block 255";
+const FUNCTION: &str = "law: a fault's function is one of the table's";
+const FRESH: &str = "law: a start leaves a fresh pool";
+const NO_START: &str = "law: a refused start leaves the words";
+const STEPS: &str = "law: a step makes one of rules 1 to 9";
+const PROMOTES: &str = "law: a promotion makes rule 10";
+const NO_CHOICE: &str = "law: a refused choice leaves the words";
+const ALL_MADE: &str = "law: a given schedule made all choices";
+const NONE_MADE: &str = "law: a schedule refused below 14 made and wrote nothing";
+const STOPPED: &str = "law: the choice that stopped a schedule gets the same number";
+const BEHIND: &str = "law: words behind main's values stay";
+const NO_VALUES: &str = "law: open values write nothing";
+const UNANSWERED: &str = "law: refused values write nothing";
+const ONLY_READ: &str = "law: what is only read stays";
+const AROUND: &str = "law: memory around what is lent stays";
+const WRAPPED: &str = "law: the wrapper answers and writes the same";
+
+const LAWS: [&str; 20] = [
+    UNUSED, PLACED, AT_BLOCK, AT_SPAWN, AT_MAIN, FUNCTION, FRESH, NO_START, STEPS, PROMOTES,
+    NO_CHOICE, ALL_MADE, NONE_MADE, STOPPED, BEHIND, NO_VALUES, UNANSWERED, ONLY_READ, AROUND,
+    WRAPPED,
+];
+
+/// What must occur: every law, and every answer of every call.
+pub fn events() -> Vec<String> {
+    let calls = [READ, CHECK, START, CHOOSE, WHICH, VALUES, SCHEDULE];
+    LAWS.iter()
+        .map(|law| law.to_string())
+        .chain(calls.iter().flat_map(Call::events))
+        .collect()
+}
+
+/// What was asserted since it was last counted.
+#[derive(Default)]
+pub struct Laws {
+    answers: Vec<(&'static Call, u64)>,
+    asserted: Vec<(&'static str, bool, u64)>,
+}
+
+impl Laws {
+    /// Counts the answers and what was asserted of them.
+    pub fn count(&mut self, tally: &mut Tally) {
+        for (call, number) in self.answers.drain(..) {
+            let answer = answer_in(number).map_err(|refusal| refusal.number);
+            let can = call.can(answer);
+            tally.expect(can, || format!("{} answers {number:#x}", call.name));
+            if !can {
+                continue;
+            }
+            tally.event(&call.event(answer));
+            match answer {
+                Ok(_) if call.name != CHOOSE.name => {}
+                _ => tally.answer(answer.map(|rule| rule as u8)),
+            }
+        }
+        for (law, holds, number) in self.asserted.drain(..) {
+            tally.expect(holds, || format!("{law}: {number:#x} answered"));
+            tally.event(law);
+        }
+    }
+
+    fn assert(&mut self, law: &'static str, number: u64, holds: bool) {
+        self.asserted.push((law, holds, number));
+    }
+
+    /// Of the number alone, and of the place that a refusal has in a table.
+    pub fn answer(&mut self, call: &'static Call, table: &[u8], number: u64) {
+        self.answers.push((call, number));
+        let used = match refused(number) {
+            _ if is_given(number) => 33,
+            3 => 32,
+            4..=11 => 24,
+            _ => 8,
+        };
+        self.assert(UNUSED, number, number >> used == 0);
+        match refused(number) {
+            _ if is_given(number) => {}
+            3 => {
+                let bytes = table.len();
+                let read = (6..=16_384).contains(&bytes);
+                self.assert(PLACED, number, read && place(number) <= bytes);
+            }
+            4..=11 => self.fault(table, number),
+            _ => {}
+        }
+    }
+
+    fn fault(&mut self, table: &[u8], number: u64) {
+        let functions = usize::from(*table.get(5).unwrap_or(&0));
+        let there = function(number) < functions && functions <= 16;
+        self.assert(FUNCTION, number, there);
+        let fault = refused(number);
+        match block(number) {
+            255 if fault == 4 => self.assert(AT_MAIN, number, function(number) == 0),
+            255 => self.assert(AT_SPAWN, number, matches!(fault, 6 | 9)),
+            block => self.assert(AT_BLOCK, number, fault != 4 && block < 32),
+        }
+    }
+
+    /// The words before and afterwards.
+    pub fn start(&mut self, table: &[u8], words: &[i32], number: u64, left: &[i32]) {
+        self.answer(&START, table, number);
+        if is_given(number) {
+            let begun = left.len() == POOL_WORDS && left.starts_with(&[1, 1]);
+            let rest = left.iter().skip(2).all(|&word| word == 0);
+            self.assert(FRESH, number, begun && rest);
+        } else {
+            self.assert(NO_START, number, left == words);
+        }
+    }
+
+    pub fn choose(
+        &mut self,
+        table: &[u8],
+        words: &[i32],
+        choice: Choice,
+        number: u64,
+        left: &[i32],
+    ) {
+        self.answer(&CHOOSE, table, number);
+        match choice.kind {
+            _ if !is_given(number) => self.assert(NO_CHOICE, number, left == words),
+            PROMOTE => self.assert(PROMOTES, number, value(number) == 10),
+            kind => {
+                let rule = (1..=9).contains(&value(number));
+                self.assert(STEPS, number, kind == 0 && rule);
+            }
+        }
+    }
+
+    /// The words lent for main's values before and afterwards.
+    pub fn values(&mut self, table: &[u8], room: &[i32], number: u64, left: &[i32]) {
+        self.answer(&VALUES, table, number);
+        if !is_given(number) {
+            self.assert(UNANSWERED, number, left == room);
+        } else if value(number) == OPEN {
+            self.assert(NO_VALUES, number, left == room);
+        } else {
+            let count = (value(number) as usize).min(room.len());
+            self.assert(BEHIND, number, left[count..] == room[count..]);
+        }
+    }
+
+    /// How many choices were made, of how many; and the number that the
+    /// choice gets that stopped it, put to the words left.
+    pub fn schedule(
+        &mut self,
+        table: &[u8],
+        words: &[i32],
+        number: u64,
+        left: &[i32],
+        (made, all): (u64, u64),
+        again: Option<u64>,
+    ) {
+        self.answer(&SCHEDULE, table, number);
+        if is_given(number) {
+            self.assert(ALL_MADE, number, made == all);
+        } else if stops(number) {
+            self.assert(STOPPED, number, again == Some(number));
+        } else {
+            self.assert(NONE_MADE, number, made == 0 && left == words);
+        }
+    }
+
+    /// Whether what is only read stays, and the memory around what is lent.
+    pub fn memory(&mut self, number: u64, only_read: bool, around: bool) {
+        self.assert(ONLY_READ, number, only_read);
+        self.assert(AROUND, number, around);
+    }
+
+    /// Whether the wrapper answers what the macros read, and writes the same.
+    pub fn wrapped(&mut self, number: u64, holds: bool) {
+        self.assert(WRAPPED, number, holds);
+    }
+}
