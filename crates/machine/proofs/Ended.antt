@@ -25,7 +25,7 @@ use Rattle.lend.proofs.Lending.{Lending}
 use Rattle.machine.specs.declared.State.{State}
 use Rattle.machine.specs.declared.State.the-variants.{Given, Open, Refused}
 use Rattle.machine.specs.declared.Main.{Main}
-use Rattle.machine.specs.Calls.{stateOf, valuesIn, IsMain}
+use Rattle.machine.specs.Calls.{stateOf, valuesGiven, IsMain}
 use Rattle.machine.proofs.Few.{few-ended}
 
 abbrev blank : State → Main
@@ -33,15 +33,15 @@ blank x = record { state = x; count = 0; values = replicate 4 (pos 0) }
 
 -- an answer with no values
 pub main-refused : (m : Main) (why : Why.Refusal) {a : Answer (Option (List ℤ))} → m ≡ blank (Refused why) → a ≡ Answer.refused (refusalOf why) → IsMain m a
-unfolding valuesIn pad
+unfolding valuesGiven pad
 main-refused m why e h = rw (e, h) (record { answer = refl; count = refl; values = refl })
 
 main-open : (m : Main) {a : Answer (Option (List ℤ))} → m ≡ blank Open → a ≡ Answer.given none → IsMain m a
-unfolding valuesIn pad
+unfolding valuesGiven pad
 main-open m e h = rw (e, h) (record { answer = refl; count = refl; values = refl })
 
 given-are : (v̄ : List ℤ) → IsMain (record { state = Given; count = length v̄; values = pad 4 (pos 0) v̄ }) (Answer.given (some v̄))
-unfolding valuesIn pad
+unfolding valuesGiven pad
 given-are v̄ =
     record { answer = ap (λ (l : List ℤ). Answer.given (some l)) (take-at v̄ (replicate (4 - length v̄) (pos 0)) (length v̄) refl); count = refl; values = refl }
 
@@ -96,7 +96,7 @@ module _ (s places : List ℕ) (ws : List ℤ) (l : Lending s places ws) (o : Lo
   pub values-given : {v₀ v₁ v₂ v₃ : ℤ} → o .ok ≡ true
       → v₀ ≡ getD (o .values .at) 0 (pos 0) → v₁ ≡ getD (o .values .at) 1 (pos 0) → v₂ ≡ getD (o .values .at) 2 (pos 0) → v₃ ≡ getD (o .values .at) 3 (pos 0)
       → IsMain (record { state = Given; count = o .values .count; values = v₀ ∷ v₁ ∷ v₂ ∷ v₃ ∷ [] }) (values s ws)
-  unfolding lookedAs valuesAs valuesIn
+  unfolding lookedAs valuesAs valuesGiven
   values-given {v₀} {v₁} {v₂} {v₃} z e₀ e₁ e₂ e₃ = go (main-thread .values) (main-thread .is) (main-thread .answer) (main-thread .few)
     where
       go : (w : Option (List ℤ)) → o ≡ lookedAs w → values s ws ≡ Answer.given w → ((v̄ : List ℤ) → w ≡ some v̄ → length v̄ ≤ 4)

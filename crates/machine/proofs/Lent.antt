@@ -16,7 +16,7 @@ use Rattle.model.proofs.Kept.{choose-lent}
 use Rattle.steps.specs.declared.Made.{Made}
 use Rattle.steps.specs.declared.Stepper.{Stepper}
 use Rattle.steps.specs.declared.Stepper.the-variants as found
-use Rattle.steps.specs.Choice.{answerOf, Goes, Stops, Chooses, FindsStepper}
+use Rattle.steps.specs.Choice.{madeOf, Goes, Stops, Chooses, FindsStepper}
 use Rattle.lend.proofs.Lending.{Lending}
 use Rattle.machine.specs.Calls.{called}
 
@@ -47,9 +47,9 @@ module _ (s : List ℕ) (ws : List ℤ) {x : Refusal} (e : lent s ws ≡ Answer.
 -- the calls on a pool that is lent
 module _ (s places : List ℕ) (ws : List ℤ) (l : Lending s places ws) where
   pub choose-given : (kind thread : ℕ) (r m : Made) (ws′ : List ℤ) → Chooses s places ws kind thread r ws′ → r ≡ m
-      → called (answerOf m) ws′ ≡ choose s ws kind thread
+      → called (madeOf m) ws′ ≡ choose s ws kind thread
   choose-given kind thread r m ws′ f z =
-      ap (λ (x : Made). called (answerOf x) ws′) (sym z)
+      ap (λ (x : Made). called (madeOf x) ws′) (sym z)
       ∙ f (l .what .table) (l .what .pool) (l .table) (l .words) (l .valid) .called
       ∙ sym (choose-lent s ws kind thread (l .is))
 

@@ -36,13 +36,13 @@ stateOf state.Open v̄ = Answer.given none
 stateOf (state.Refused why) v̄ = Answer.refused (refusalOf why)
 
 -- the values of an answer; none where none are given
-unfoldable pub valuesIn : Answer (Option (List ℤ)) → List ℤ
-valuesIn (Answer.given (some v̄)) = v̄
-valuesIn (Answer.given none) = []
-valuesIn (Answer.refused r) = []
+unfoldable pub valuesGiven : Answer (Option (List ℤ)) → List ℤ
+valuesGiven (Answer.given (some v̄)) = v̄
+valuesGiven (Answer.given none) = []
+valuesGiven (Answer.refused r) = []
 
 -- main's values: the answer, and what stands beside it
 pub record IsMain (m : Main) (a : Answer (Option (List ℤ))) : Type 0 where
   pub answer : stateOf (m .state) (take (m .count) (m .values)) ≡ a
-  pub count : m .count ≡ length (valuesIn a)
-  pub values : m .values ≡ pad 4 (pos 0) (valuesIn a)
+  pub count : m .count ≡ length (valuesGiven a)
+  pub values : m .values ≡ pad 4 (pos 0) (valuesGiven a)

@@ -23,7 +23,7 @@ use Rattle.steps.specs.declared.Made.{Made}
 use Rattle.steps.specs.declared.Made.the-variants.{Rule, Refused}
 use Rattle.steps.specs.declared.Stepper.{Stepper}
 use Rattle.steps.specs.declared.Stepper.the-variants.{Thread, Nobody}
-use Rattle.steps.specs.Choice.{answerOf, Goes, Stops, afterStep, Tried, Tries, Finds, FindsStepper, First, FindsFirst, Chooses}
+use Rattle.steps.specs.Choice.{madeOf, Goes, Stops, afterStep, Tried, Tries, Finds, FindsStepper, First, FindsFirst, Chooses}
 use Rattle.steps.proofs.Effects.{on-none}
 use Rattle.steps.proofs.Choosing.{pool-counted}
 
@@ -37,26 +37,26 @@ module _ {s places : List ℕ} {ws : List ℤ} {i : ℕ} {r : Made} {ws′ : Lis
   unfolding made isGiven
   tries-goes {n} e P p q w v = go (choice P p 0 i) refl
     where
-      same : _≡_ {A = Called ℕ} (record { answer = answerOf r; after = ws′ }) (made ws (choice P p 0 i))
+      same : _≡_ {A = Called ℕ} (record { answer = madeOf r; after = ws′ }) (made ws (choice P p 0 i))
       same = f P p q w v .called
 
       go : (x : Result) → choice P p 0 i ≡ x → Goes P p i × (ws′ ≡ afterStep P p ws i)
       go (Result.made rule p′) y = ((rule, p′, y), ap (λ (c : Called ℕ). c .after) same)
       go (Result.refused m) y =
           true-false true refl
-          (ap (λ (z : Made). isGiven (answerOf z)) (sym e) ∙ ap (λ (c : Called ℕ). isGiven (c .answer)) (same ∙ ap (made ws) y))
+          (ap (λ (z : Made). isGiven (madeOf z)) (sym e) ∙ ap (λ (c : Called ℕ). isGiven (c .answer)) (same ∙ ap (made ws) y))
 
   pub tries-stops : {n : ℕ} → r ≡ Refused n → Tries s places ws i false ws′
   unfolding made isGiven
   tries-stops {n} e P p q w v = go (choice P p 0 i) refl
     where
-      same : _≡_ {A = Called ℕ} (record { answer = answerOf r; after = ws′ }) (made ws (choice P p 0 i))
+      same : _≡_ {A = Called ℕ} (record { answer = madeOf r; after = ws′ }) (made ws (choice P p 0 i))
       same = f P p q w v .called
 
       go : (x : Result) → choice P p 0 i ≡ x → Stops P p i × (ws′ ≡ ws)
       go (Result.made rule p′) y =
           true-false true refl
-          (sym (ap (λ (c : Called ℕ). isGiven (c .answer)) (same ∙ ap (made ws) y)) ∙ ap (λ (z : Made). isGiven (answerOf z)) e)
+          (sym (ap (λ (c : Called ℕ). isGiven (c .answer)) (same ∙ ap (made ws) y)) ∙ ap (λ (z : Made). isGiven (madeOf z)) e)
       go (Result.refused m) y = ((m, y), ap (λ (c : Called ℕ). c .after) (same ∙ ap (made ws) y))
 
 -- the threads up to i do not step, and the words are still those at the start

@@ -69,9 +69,9 @@ abbrev pub decisionOf : List ℕ → Thread → Acted → List ℤ → Decision
 decisionOf s t d out = decisionBy (d .does) s t d out
 
 -- the answer to a choice: the rule, or document 01's number
-abbrev pub answerOf : Made → Answer ℕ
-answerOf (Rule rule) = Answer.given rule
-answerOf (Refused n) = Answer.refused (Refusal.plain n)
+abbrev pub madeOf : Made → Answer ℕ
+madeOf (Rule rule) = Answer.given rule
+madeOf (Refused n) = Answer.refused (Refusal.plain n)
 
 -- what is known: the places are the program's, the words hold a valid pool of it, and t is thread i
 pub record Known (s places : List ℕ) (ws : List ℤ) (i : ℕ) (P : Program) (a : Pool) (t : Thread) (b : Pool) : Type 0 where
@@ -250,7 +250,7 @@ Promotes s places ws i r ws′ =
 
 -- a choice: the answer and the words are those of the model's choice, and the words are a pool of the table
 pub record Chose (P : Program) (p : Pool) (ws : List ℤ) (kind thread : ℕ) (r : Made) (ws′ : List ℤ) : Type 0 where
-  pub called : _≡_ {A = Called ℕ} (record { answer = answerOf r; after = ws′ }) (made ws (choice P p kind thread))
+  pub called : _≡_ {A = Called ℕ} (record { answer = madeOf r; after = ws′ }) (made ws (choice P p kind thread))
   pub valid : arePool P ws′ ≡ true
 
 abbrev pub Chooses : List ℕ → List ℕ → List ℤ → ℕ → ℕ → Made → List ℤ → Type 0
