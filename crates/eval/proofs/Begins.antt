@@ -19,9 +19,9 @@ use Rattle.model.specs.Sets.{has, with, below}
 use Rattle.model.specs.Pool.{Frame, temporaries, frameWords, begin}
 use Rattle.model.specs.Frames.{bind}
 use Rattle.model.proofs.Facts.{ltb-true, ltb-false}
-use Rattle.frames.specs.InPlace.{named, FrameHeld, Became, Named, Bound}
-use Rattle.frames.proofs.InPlace.{held-became, became-held, became-then}
-use Rattle.eval.specs.Code.{most}
+use Rattle.pool.specs.InPlace.{named, FrameHeld, Became, Named, Bound}
+use Rattle.pool.proofs.InPlace.{held-became, became-held, became-then}
+use Rattle.code.specs.Code.{most}
 use Rattle.eval.specs.Given.{Begins}
 
 -- how many of n values a buffer has
@@ -50,7 +50,8 @@ module _ (v̄ : List ℤ) (i : ℕ) (l : i < length v̄) where
   one-more : take (i + 1) v̄ ≡ take i v̄ ++ (getD v̄ i (pos 0) ∷ [])
   one-more = rw (add-one i) (take-suc v̄ i (pos 0) l)
 
-  padded-more : i < temporaries → set (pad temporaries (pos 0) (take i v̄)) i (getD v̄ i (pos 0)) ≡ pad temporaries (pos 0) (take (i + 1) v̄)
+  padded-more : i < temporaries
+      → set (pad temporaries (pos 0) (take i v̄)) i (getD v̄ i (pos 0)) ≡ pad temporaries (pos 0) (take (i + 1) v̄)
   unfolding pad
   padded-more h =
       let z : 16 - i ≡ suc (16 - (i + 1)) = omega arith in

@@ -12,10 +12,10 @@ use lib.Seq.{getD-take}
 use Rattle.model.specs.Lists.{Each}
 use Rattle.model.specs.Pool.{Frame, temporaries, frameWords}
 use Rattle.model.specs.Frames.{bind, bindAll}
-use Rattle.frames.specs.InPlace.{FrameHeld, Became}
-use Rattle.frames.proofs.InPlace.{held-became, became-held, became-then}
-use Rattle.bytes.specs.Bytes.{byteAt, past}
-use Rattle.eval.specs.Code.{run, countAt, argumentsAt}
+use Rattle.pool.specs.InPlace.{FrameHeld, Became}
+use Rattle.pool.proofs.InPlace.{held-became, became-held, became-then}
+use Rattle.code.specs.Bytes.{byteAt, past}
+use Rattle.code.specs.Code.{run, countAt, argumentsAt}
 use Rattle.eval.specs.Given.{Binds, BindsAll}
 use Rattle.eval.proofs.Lists.{Binding, binding-starts, binding-next, binding-goes, binding-ends, arguments-are}
 
@@ -41,8 +41,8 @@ module _ (s : List ℕ) (p₀ n : ℕ) (v̄ ws₀ : List ℤ) (k : ℕ) where
         is = λ m h g. record { frame = m; became = held-became h; binding = binding-starts s p₀ n (take n v̄) m g };
       }
 
-  pub binds-goes : {ws ws′ : List ℤ} {p i x q : ℕ} → BindingAt ws p i → i < n → x ≡ byteAt s p → q ≡ past p 1 → SFits w32 (getD v̄ i (pos 0))
-      → Binds ws k x (toZ w32 (ofZ w32 (getD v̄ i (pos 0)))) ws′ → BindingAt ws′ q (i + 1)
+  pub binds-goes : {ws ws′ : List ℤ} {p i x q : ℕ} → BindingAt ws p i → i < n → x ≡ byteAt s p → q ≡ past p 1
+      → SFits w32 (getD v̄ i (pos 0)) → Binds ws k x (toZ w32 (ofZ w32 (getD v̄ i (pos 0)))) ws′ → BindingAt ws′ q (i + 1)
   binds-goes {ws} {ws′} {p} {i} {x} {q} h l e₁ e₂ f b =
       record { within = omega arith; few = h .few; room = h .room; is = λ m o g. go m (h .is m o g) }
     where
@@ -51,15 +51,16 @@ module _ (s : List ℕ) (p₀ n : ℕ) (v̄ ws₀ : List ℤ) (k : ℕ) where
           let w : getD (take n v̄) i (pos 0) ≡ toZ w32 (ofZ w32 (getD v̄ i (pos 0))) = getD-take n v̄ i (pos 0) l ∙ sym (toZ-ofZ f) in
           let o : FrameHeld ws k (u .frame) = became-held (h .room) (u .became) in
           let y : x < temporaries = omega (arith, binding-next s p₀ n (take n v̄) m (u .frame) p i (u .binding) l) in
-          let z : bind (u .frame) x (toZ w32 (ofZ w32 (getD v̄ i (pos 0)))) ≡ bind (u .frame) (byteAt s p) (getD (take n v̄) i (pos 0)) = rw (e₁, w) in
+          let v : ℤ = getD (take n v̄) i (pos 0) in
+          let z : bind (u .frame) x (toZ w32 (ofZ w32 (getD v̄ i (pos 0)))) ≡ bind (u .frame) (byteAt s p) v = rw (e₁, w) in
           record {
-            frame = bind (u .frame) (byteAt s p) (getD (take n v̄) i (pos 0));
+            frame = bind (u .frame) (byteAt s p) v;
             became = subst (λ (r : Frame). Became ws₀ k r ws′) z (became-then (h .room) (u .became) (b .bound y (u .frame) o));
             binding = binding-goes s p₀ n (take n v̄) m (u .frame) p i (u .binding) l (omega (arith, length-take n v̄, h .few)) e₂;
           }
 
-  pub binds-ends : {ws : List ℤ} {p i : ℕ} → BindingAt ws p i → n ≤ i → (m : Frame) → FrameHeld ws₀ k m → Each (λ x. x < temporaries) (run s p₀ n)
-      → Became ws₀ k (bindAll m (run s p₀ n) (take n v̄)) ws
+  pub binds-ends : {ws : List ℤ} {p i : ℕ} → BindingAt ws p i → n ≤ i → (m : Frame) → FrameHeld ws₀ k m
+      → Each (λ x. x < temporaries) (run s p₀ n) → Became ws₀ k (bindAll m (run s p₀ n) (take n v̄)) ws
   binds-ends {ws} {p} {i} h l m o g =
       let u = h .is m o g in
       subst (λ (r : Frame). Became ws₀ k r ws) (binding-ends s p₀ n (take n v̄) m (u .frame) p i (u .binding) l) (u .became)

@@ -12,7 +12,7 @@ use Rattle.model.specs.Pool as Pool
 use Rattle.model.specs.Frames as Frames
 use Rattle.model.specs.Frames.{look, lookAll}
 use Rattle.words.specs.Runs.{pasted}
-use Rattle.eval.specs.Code.{most}
+use Rattle.code.specs.Code.{most}
 use Rattle.eval.specs.Given.{valuesAs, lookedOf, lookedAs, andOn, boundPart, filled}
 
 drop-replicate : (n k : ℕ) → drop k (replicate n (pos 0)) ≡ replicate (n - k) (pos 0)

@@ -1,6 +1,5 @@
 pub mod Leaves
 pub mod Buffers
 pub mod Lists
-pub mod Decoding
 pub mod Binds
 pub mod Begins

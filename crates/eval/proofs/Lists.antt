@@ -1,13 +1,11 @@
--- The loops over statements and argument lists: what one turn adds.
-use Prim.Native.Nat.{ℕ, zero, suc, _+_, _-_, _≤_, _<_}
+-- The loops over argument lists: what one turn adds.
+use Prim.Native.Nat.{ℕ, suc, _+_, _-_, _≤_, _<_}
 use mathlib.Core.Path.{_≡_, refl, sym, ap, subst, _∙_}
-use mathlib.Core.Bool.{true, false, not}
+use mathlib.Core.Bool.{true, false}
 use mathlib.Core.Option.{Option, none, some}
 use mathlib.Core.List.{List, [], _∷_, _++_, append-nil, append-assoc}
-use native.Mathlib.Nat.{not-suc-le-zero}
 use native.Mathlib.Omega.{arith}
 use native.Mathlib.Numerals.{add-one}
-use borrow.Author.Tests.{not-true, not-false}
 use mir.Val.{SFits, toZ, ofZ}
 use mir.Facts.{toZ-ofZ}
 use mir.Syntax.{w32}
@@ -19,23 +17,14 @@ use Rattle.model.specs.Pool as Pool
 use Rattle.model.specs.Pool.{temporaries}
 use Rattle.model.specs.Frames as Frames
 use Rattle.model.specs.Frames.{look, lookAll, bind, bindAll}
-use Rattle.eval.specs.declared.Value.{Value}
-use Rattle.bytes.specs.Bytes.{byteAt, past}
-use Rattle.eval.specs.Code.{run, countAt, argumentsAt, statementEnd, statementsEnd}
-use Rattle.eval.specs.Given.{valueAs, boundPart, filled, Looks}
-use Rattle.eval.proofs.Leaves.{count-le, value-none, value-some}
+use Rattle.eval.specs.declared.Evaluated.{Evaluated}
+use Rattle.eval.specs.declared.Evaluated.the-variants.{Value, Unbound}
+use Rattle.code.specs.Bytes.{byteAt, past}
+use Rattle.code.specs.Code.{run, countAt, argumentsAt}
+use Rattle.eval.specs.Given.{evaluatedAs, boundPart, filled, Looks}
+use Rattle.code.proofs.Ends.{count-le}
+use Rattle.eval.proofs.Leaves.{none-is, value-is}
 use Rattle.eval.proofs.Buffers.{bound-cons, bound-none, filled-is}
-
--- statements: one passed
-pub statements-goes : (s : List ℕ) (at n : ℕ) → 0 < n → statementsEnd s at n ≡ statementsEnd s (statementEnd s at) (n - 1)
-unfolding statementsEnd
-statements-goes s at zero h = absurd (not-suc-le-zero h)
-statements-goes s at (suc n) h = let e : suc n - 1 ≡ n = omega arith in rw e
-
-pub statements-none : (s : List ℕ) (at n : ℕ) → n ≤ 0 → statementsEnd s at n ≡ at
-unfolding statementsEnd
-statements-none s at zero h = refl
-statements-none s at (suc n) h = absurd (not-suc-le-zero h)
 
 -- a run, from its first byte
 run-goes : (s : List ℕ) (p n i : ℕ) → i < n → run s p (n - i) ≡ byteAt s p ∷ run s (past p 1) (n - (i + 1))
@@ -58,7 +47,8 @@ ahead-nil (some w̄) = refl
 
 module _ (k : Pool.Frame) where
   -- a temporary that is bound, and one that is not, before others
-  look-cons : (x : ℕ) (x̄ : List ℕ) (v : ℤ) (v̄ : List ℤ) → look k x ≡ some v → ahead v̄ (lookAll k (x ∷ x̄)) ≡ ahead (v̄ ++ (v ∷ [])) (lookAll k x̄)
+  look-cons : (x : ℕ) (x̄ : List ℕ) (v : ℤ) (v̄ : List ℤ) → look k x ≡ some v
+      → ahead v̄ (lookAll k (x ∷ x̄)) ≡ ahead (v̄ ++ (v ∷ [])) (lookAll k x̄)
   unfolding lookAll ahead
   look-cons x x̄ v v̄ e = rw e (go (lookAll k x̄))
     where
@@ -94,14 +84,13 @@ module _ (k : Pool.Frame) where
           back = refl;
         }
 
-    pub read-goes : (out : List ℤ) (p i : ℕ) (v : Value) {x q : ℕ} → Read out p i → i < n → x ≡ byteAt s p → q ≡ past p 1
-        → v ≡ valueAs (look k x) → not (v .ok) ≡ false → SFits w32 (v .value)
-        → Read (set out i (toZ w32 (ofZ w32 (v .value)))) q (i + 1)
-    read-goes out p i v h l e₁ e₂ e₃ t f =
-        let some-v : look k (byteAt s p) ≡ some (v .value) = ap (look k) (sym e₁) ∙ value-some v _ e₃ (not-false (v .ok) t) in
+    pub read-goes : (out : List ℤ) (p i : ℕ) (r : Evaluated) {x q : ℕ} {v : ℤ} → Read out p i → i < n → x ≡ byteAt s p → q ≡ past p 1
+        → r ≡ evaluatedAs (look k x) → r ≡ Value v → SFits w32 v → Read (set out i (toZ w32 (ofZ w32 v))) q (i + 1)
+    read-goes out p i r {v = v} h l e₁ e₂ e₃ t f =
+        let some-v : look k (byteAt s p) ≡ some v = ap (look k) (sym e₁) ∙ value-is r _ e₃ t in
         let rest : List ℕ = run s (past p 1) (n - (i + 1)) in
-        let first : take (i + 1) (set out i (toZ w32 (ofZ w32 (v .value)))) ≡ take i out ++ (v .value ∷ []) =
-        rw (toZ-ofZ f, add-one i) (take-suc-set out i (v .value) (omega (arith, h .few, h .long, h .room)))
+        let first : take (i + 1) (set out i (toZ w32 (ofZ w32 v))) ≡ take i out ++ (v ∷ []) =
+        rw (toZ-ofZ f, add-one i) (take-suc-set out i v (omega (arith, h .few, h .long, h .room)))
         in
         record {
           within = omega arith;
@@ -111,13 +100,13 @@ module _ (k : Pool.Frame) where
           is =
               h .is
               ∙ ap (λ (x̄ : List ℕ). ahead (take i out) (lookAll k x̄)) (run-goes s p n i l)
-              ∙ look-cons (byteAt s p) rest (v .value) (take i out) some-v
+              ∙ look-cons (byteAt s p) rest v (take i out) some-v
               ∙ rw (e₂, first);
           front =
               h .front
               ∙ ap (λ (x̄ : List ℕ). take i out ++ boundPart k x̄) (run-goes s p n i l)
-              ∙ ap (λ (v̄ : List ℤ). take i out ++ v̄) (bound-cons k (byteAt s p) rest (v .value) some-v)
-              ∙ sym (append-snoc (take i out) (v .value) (boundPart k rest))
+              ∙ ap (λ (v̄ : List ℤ). take i out ++ v̄) (bound-cons k (byteAt s p) rest v some-v)
+              ∙ sym (append-snoc (take i out) v (boundPart k rest))
               ∙ rw (e₂, first);
           back =
               drop-set-lt (i + 1) out i _ (omega arith)
@@ -127,10 +116,10 @@ module _ (k : Pool.Frame) where
         }
 
     module _ (out : List ℤ) (p i : ℕ) (h : Read out p i) where
-      read-stops : (v : Value) {x : ℕ} → i < n → x ≡ byteAt s p → v ≡ valueAs (look k x) → not (v .ok) ≡ true
+      read-stops : (r : Evaluated) {x : ℕ} → i < n → x ≡ byteAt s p → r ≡ evaluatedAs (look k x) → r ≡ Unbound
           → (none ≡ lookAll k (run s p₀ n)) × (out ≡ filled k (run s p₀ n) out₀)
-      read-stops v l e₁ e₂ t =
-          let none-v : look k (byteAt s p) ≡ none = ap (look k) (sym e₁) ∙ value-none v _ e₂ (not-true (v .ok) t) in
+      read-stops r l e₁ e₂ t =
+          let none-v : look k (byteAt s p) ≡ none = ap (look k) (sym e₁) ∙ none-is r _ e₂ t in
           let rest : List ℕ = run s (past p 1) (n - (i + 1)) in (
             sym
                 (h .is
@@ -164,12 +153,12 @@ arguments-are s at e d = rw (e, d)
 
 module _ (k : Pool.Frame) (s : List ℕ) (at : ℕ) {p₀ n : ℕ} {out₀ : List ℤ} (out : List ℤ) (p i : ℕ) (e : p₀ ≡ past at 1)
     (d : n ≡ countAt s at) (h : Read k s p₀ n out₀ out p i) where
-  pub arguments-unbound : {x : ℕ} (v : Value) → i < n → x ≡ byteAt s p → v ≡ valueAs (look k x) → not (v .ok) ≡ true
+  pub arguments-unbound : {x : ℕ} (r : Evaluated) → i < n → x ≡ byteAt s p → r ≡ evaluatedAs (look k x) → r ≡ Unbound
       → Looks k s at out₀ false out
-  arguments-unbound v l e₁ e₂ t =
-      let (q, r) = read-stops k s p₀ n out₀ out p i h v l e₁ e₂ t in
+  arguments-unbound r l e₁ e₂ t =
+      let (q, w) = read-stops k s p₀ n out₀ out p i h r l e₁ e₂ t in
       let a = arguments-are s at e d in
-      record { is = q ∙ ap (lookAll k) a; left = r ∙ ap (λ (x̄ : List ℕ). filled k x̄ out₀) a }
+      record { is = q ∙ ap (lookAll k) a; left = w ∙ ap (λ (x̄ : List ℕ). filled k x̄ out₀) a }
 
   pub arguments-bound : n ≤ i → Looks k s at out₀ true out
   arguments-bound l =

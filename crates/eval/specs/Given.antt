@@ -9,12 +9,12 @@ use lib.ListN.{length, take}
 use Rattle.model.specs.Values as Values
 use Rattle.model.specs.Lists.{Each, pad}
 use Rattle.model.specs.Pool.{Frame, temporaries, begin}
-use Rattle.model.specs.Frames.{look, lookAll, eval, bindAll}
+use Rattle.model.specs.Frames.{look, lookAll, bindAll}
 use Rattle.words.specs.Runs.{pasted}
-use Rattle.frames.specs.InPlace.{FrameHeld, Became, Bound}
-use Rattle.eval.specs.Code.{most, countAt, argumentsAt, expressionAt, expressionEnd}
-use Rattle.eval.specs.declared.Value.{Value}
+use Rattle.pool.specs.InPlace.{FrameHeld, Became, Bound}
+use Rattle.code.specs.Code.{most, countAt, argumentsAt}
 use Rattle.eval.specs.declared.Evaluated.{Evaluated}
+use Rattle.eval.specs.declared.Evaluated.the-variants.{Value, Unbound}
 use Rattle.eval.specs.declared.Values.{Values}
 use Rattle.eval.specs.declared.Looked.{Looked}
 
@@ -23,18 +23,10 @@ abbrev pub optional : {A : Type 0} → Bool → A → Option A
 optional true a = some a
 optional false a = none
 
--- a value, or none, as the code has it: with 0 for none
-unfoldable pub valueAs : Option ℤ → Value
-valueAs none = record { ok = false; value = pos 0 }
-valueAs (some v) = record { ok = true; value = v }
-
--- an expression's value and where the expression ends, or none: with 0 for none
-unfoldable pub evaluatedAs : Option ℤ → ℕ → Evaluated
-evaluatedAs none end = record { ok = false; value = pos 0; end = 0 }
-evaluatedAs (some v) end = record { ok = true; value = v; end = end }
-
-abbrev pub Evaluates : Frame → List ℕ → ℕ → Evaluated → Type 0
-Evaluates m s at r = r ≡ evaluatedAs (eval m (expressionAt s at)) (expressionEnd s at)
+-- what evaluation comes to, as the code has it
+unfoldable pub evaluatedAs : Option ℤ → Evaluated
+evaluatedAs none = Unbound
+evaluatedAs (some v) = Value v
 
 abbrev pub valuesOf : Values → List ℤ
 valuesOf v = take (v .count) (v .at)

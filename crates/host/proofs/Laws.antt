@@ -10,23 +10,22 @@ use lib.Dec.{eqb, lit≤}
 use lib.IntN.{ℤ}
 use lib.ListN.{length, getD, getElem?, take, drop}
 use Rattle.model.specs.Numbers as No
-use Rattle.model.specs.Numbers.{RuleOf}
+use Rattle.model.specs.Numbers.{Within, RuleOf}
 use Rattle.model.specs.Answers.{Refusal, Answer, outcome}
 use Rattle.model.specs.Syntax.{Function, Program}
 use Rattle.model.specs.Limits.{InFunction}
-use Rattle.model.specs.Lists.{pad, concat}
-use Rattle.model.specs.Sets.{below}
-use Rattle.model.specs.Pool.{wordsOfFrame, wordsOfThread, wordsOf, begin, started}
+use Rattle.model.specs.Pool.{wordsOf, started}
 use Rattle.model.specs.Calls as Calls
 use Rattle.model.specs.Calls.{Choice}
 use Rattle.model.proofs.Facts.{ne-eqb, each-at, at-below}
+use Rattle.model.proofs.Words.{started-words}
 use Rattle.model.proofs.Guarantees.{read-limits}
 use Rattle.model.proofs.Kept.{OnSome}
 use Rattle.model.proofs.Numbers as Numbers
 use Rattle.model.proofs.Numbers.{Can, Any, read-can, check-can, start-can, choose-can, schedule-can, which-can, values-can}
 use Rattle.model.proofs.Numbers.{read-heading, start-begins, start-leaves, choose-leaves}
 use Rattle.answers.specs.Coded.{codeOf}
-use Rattle.host.specs.Macros.{isGiven, value, number, block}
+use Rattle.host.specs.Macros.{isGiven, value, number, block, function}
 use Rattle.host.specs.Exports.{done, ruled, stepperOf, counted, over, written}
 use Rattle.host.specs.Contracts.{Read, Check, Start, Choose, Schedule, Which, Values}
 use Rattle.host.specs.Laws as Laws
@@ -101,32 +100,20 @@ fault-fits {s} {P} h _ (Numbers.Faults.block {f = f} g l w) =
     let j = h .blocks f g in
     ((omega arith, omega arith), omega arith, omega arith)
 
+in-program : {s : List ℕ} {r : ℕ} → Within No.main No.nesting (number r) → Placed r → function r < getD s 5 0 → getD s 5 0 ≤ 16
+    → OfProgram s r
+in-program n p f m = record { numbered = n; placed = p; functionThere = f; functions = m }
+
 fault-told : {s : List ℕ} {P : Program} → Lies s P → {q : Refusal} → Numbers.Faults P q → OfProgram s (codeOf q)
-fault-told h Numbers.Faults.main =
-    record { numbered = (lit≤ tt, lit≤ tt); placed = Placed.atMain refl refl refl; functionThere = omega arith; functions = omega arith }
+fault-told h Numbers.Faults.main = in-program (lit≤ tt, lit≤ tt) (Placed.atMain refl refl refl) (omega arith) (omega arith)
 fault-told h (Numbers.Faults.spawn l (inl e)) =
-    record {
-      numbered = (omega arith, omega arith);
-      placed = Placed.atSpawn (inl (omega arith)) (omega arith);
-      functionThere = omega arith;
-      functions = omega arith;
-    }
+    in-program (omega arith, omega arith) (Placed.atSpawn (inl (omega arith)) (omega arith)) (omega arith) (omega arith)
 fault-told h (Numbers.Faults.spawn l (inr e)) =
-    record {
-      numbered = (omega arith, omega arith);
-      placed = Placed.atSpawn (inr (omega arith)) (omega arith);
-      functionThere = omega arith;
-      functions = omega arith;
-    }
+    in-program (omega arith, omega arith) (Placed.atSpawn (inr (omega arith)) (omega arith)) (omega arith) (omega arith)
 fault-told {P = P} h (Numbers.Faults.block {f = f} g l w) =
     let i = at-below P f g in
     let j = h .blocks f g in
-    record {
-      numbered = (omega arith, omega arith);
-      placed = Placed.atBlock (omega arith, omega arith) (omega arith);
-      functionThere = omega arith;
-      functions = omega arith;
-    }
+    in-program (omega arith, omega arith) (Placed.atBlock (omega arith, omega arith) (omega arith)) (omega arith) (omega arith)
 
 check-fits : {s : List ℕ} (q : Refusal) → Numbers.OfCheck s q → Fits q
 check-fits _ (Numbers.OfCheck.table h) = table-fits _ h
@@ -188,8 +175,8 @@ check-law s r e =
 
 -- the words of the fresh pool
 started-fresh : wordsOf started ≡ fresh
-unfolding wordsOf wordsOfThread wordsOfFrame started begin concat pad below fresh
-started-fresh = refl
+unfolding fresh
+started-fresh = started-words
 
 pub start-law : (s : List ℕ) (ws : List ℤ) (r : ℕ) (ws′ : List ℤ) → Start s ws r ws′ → StartTells s ws r ws′
 start-law s ws r ws′ g =

@@ -1,17 +1,18 @@
 -- What a host may conclude from the number that a call answered and from the memory that it lent, for all bytes and words: the
 -- number tells the definition's answer, which numbers there are, and what is written.
-use Prim.Native.Nat.{ℕ, _≤_, _<_, _-_}
+use Prim.Native.Nat.{ℕ, _+_, _≤_, _<_}
 use mathlib.Core.Path.{_≡_}
 use mathlib.Core.Logic.{_⊎_}
 use mathlib.Core.Bool.{true, false, _&&_, cond}
 use mathlib.Core.Option.{Option, none, some}
-use mathlib.Core.List.{List, _∷_}
+use mathlib.Core.List.{List}
 use lib.Dec.{eqb, leb}
 use lib.IntN.{ℤ, pos}
-use lib.ListN.{length, getD, getElem?, take, drop, replicate}
+use lib.ListN.{length, getD, getElem?, set, take, drop, replicate}
 use Rattle.model.specs.Numbers as No
 use Rattle.model.specs.Numbers.{Within, RuleOf}
 use Rattle.model.specs.Answers.{Refusal, Answer, outcome}
+use Rattle.model.specs.Pool.{frameCountAt, threadCountAt, threadStart}
 use Rattle.model.specs.Calls as Calls
 use Rattle.model.specs.Calls.{Choice}
 use Rattle.host.specs.Macros.{isGiven, value, number, place, block, function, poolWords, noThread, stillOpen}
@@ -75,9 +76,9 @@ pub record CheckTells (s : List ℕ) (r : ℕ) : Type 0 where
   pub given : isGiven r ≡ true → value r ≡ 0
   pub refused : isGiven r ≡ false → OfTable s r ⊎ OfProgram s r
 
--- a fresh pool: one thread, with one frame at main's entry
+-- a fresh pool: one thread, with one frame at main's entry. Every other word is 0
 unfoldable pub fresh : List ℤ
-fresh = pos 1 ∷ pos 1 ∷ replicate (poolWords - 2) (pos 0)
+fresh = set (set (replicate poolWords (pos 0)) threadCountAt (pos 1)) (threadStart 0 + frameCountAt) (pos 1)
 
 -- mezdaulk_start
 pub record StartTells (s : List ℕ) (ws : List ℤ) (r : ℕ) (ws′ : List ℤ) : Type 0 where

@@ -6,18 +6,17 @@ use lib.IntN.{ℤ}
 use Rattle.model.specs.Answers.{Answer}
 use Rattle.model.specs.Calls.{Called, Which}
 use Rattle.answers.specs.declared.Answer as Code
-use Rattle.answers.specs.Answers.{answerOf}
-use Rattle.machine.specs.declared.Chosen.{Chosen}
-use Rattle.machine.specs.declared.Stepping.{Stepping}
-use Rattle.machine.specs.Calls.{called, chosenOf, steppingOf}
-use Rattle.host.specs.Exports.{done, ruled, stepperOf, Gives, Finds}
+use Rattle.calls.specs.declared.Stepping.{Stepping}
+use Rattle.calls.specs.Calls.{called, steppingOf}
+use Rattle.host.specs.Exports.{stepperOf, Gives, Finds}
 
 -- the number of the case that was found is that of the answer
 pub told : {A B : Type 0} (code : A → ℕ) (of : B → A) {r q : B} {n : ℕ} → r ≡ q → n ≡ code (of q) → n ≡ code (of r)
 told code of e d = d ∙ ap (λ (x : _). code (of x)) (sym e)
 
 -- a call that leaves words
-pub gives : {A : Type 0} (code : Answer A → ℕ) {c : Called A} {n : ℕ} (a : Answer A) {ws : List ℤ} → called a ws ≡ c → n ≡ code a → Gives code c n ws
+pub gives : {A : Type 0} (code : Answer A → ℕ) {c : Called A} {n : ℕ} (a : Answer A) {ws : List ℤ} → called a ws ≡ c → n ≡ code a
+    → Gives code c n ws
 gives code a e d =
     record {
       number = d ∙ ap (λ (c : Called _). code (c .answer)) e;

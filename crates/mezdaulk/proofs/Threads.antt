@@ -6,8 +6,8 @@ use lib.IntN.{ℤ}
 use Rattle.model.specs.Pool.{mostThreads}
 use Rattle.model.specs.Calls.{Which}
 use Rattle.model.proofs.Numbers.{steps-there}
-use Rattle.machine.specs.declared.Stepping.{Stepping}
-use Rattle.machine.specs.Calls.{steppingOf}
+use Rattle.calls.specs.declared.Stepping.{Stepping}
+use Rattle.calls.specs.Calls.{steppingOf}
 
 pub which-there : (s : List ℕ) (ws : List ℤ) (i : ℕ) (r : Stepping) → Which s ws (steppingOf r) → r ≡ Stepping.Thread i → i < mostThreads
 unfolding Which

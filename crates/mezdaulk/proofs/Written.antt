@@ -1,5 +1,5 @@
 -- Main's values, written over the first of four words.
-use Prim.Native.Nat.{ℕ, zero, suc, _+_, _-_, _<_, _≤_, min}
+use Prim.Native.Nat.{ℕ, zero, suc, _+_, _-_, min}
 use mathlib.Core.Path.{_≡_, refl, sym, ap, subst, _∙_}
 use mathlib.Core.Bool.{Bool, true, false, cond}
 use mathlib.Core.Option.{Option, some}
@@ -13,9 +13,9 @@ use lib.IntN.{ℤ, pos}
 use lib.ListN.{length, getD, take, set, length-take}
 use Rattle.model.specs.Answers.{Answer}
 use Rattle.model.proofs.Facts.{ltb-true, ltb-false}
-use Rattle.machine.specs.declared.State.{State}
-use Rattle.machine.specs.declared.Main.{Main}
-use Rattle.machine.specs.Calls.{stateOf, IsMain}
+use Rattle.calls.specs.declared.State.{State}
+use Rattle.calls.specs.declared.Main.{Main}
+use Rattle.calls.specs.Calls.{stateOf, IsMain}
 use Rattle.answers.specs.Coded.{given}
 use Rattle.host.specs.Exports.{counted, over, written, Values}
 
@@ -71,7 +71,8 @@ abbrev put : List ℤ → (w₀ w₁ w₂ w₃ : ℤ) → List ℤ
 put ws w₀ w₁ w₂ w₃ = set (set (set (set ws 0 w₀) 1 w₁) 2 w₂) 3 w₃
 
 module _ (n : ℕ) (w₀ w₁ w₂ w₃ : ℤ) where
-  four-picked : (a b c d : ℤ) (ws : List ℤ) → Told n (a ∷ b ∷ c ∷ d ∷ []) ws w₀ w₁ w₂ w₃ → put ws w₀ w₁ w₂ w₃ ≡ picked 0 n (a ∷ b ∷ c ∷ d ∷ []) ws
+  four-picked : (a b c d : ℤ) (ws : List ℤ) → Told n (a ∷ b ∷ c ∷ d ∷ []) ws w₀ w₁ w₂ w₃
+      → put ws w₀ w₁ w₂ w₃ ≡ picked 0 n (a ∷ b ∷ c ∷ d ∷ []) ws
   four-picked a b c d [] t = refl
   four-picked a b c d (v ∷ []) t = rw (t .first) refl
   four-picked a b c d (v ∷ w ∷ []) t = rw (t .first, t .second) refl

@@ -1,8 +1,8 @@
 // The library for hosts: thin exports. include/mezdaulk.h says what each answer is.
 use answers::Answer;
-use machine::Chosen;
-use machine::State;
-use machine::Stepping;
+use calls::Chosen;
+use calls::State;
+use calls::Stepping;
 use schedule::Choice;
 use schedule::Scheduled;
 ghost use mathlib.Core.Path.{_≡_};
@@ -38,7 +38,7 @@ fn done(a: Answer) -> u64
 pub extern "C" fn mezdaulk_read(table: &[u8]) -> u64
     ensures { λ r. ⌜ Contracts.Read (now (table .entry)) r ⌝ }
 {
-    let mut places = [0u16; 656];
+    let mut places = places::none();
     done(table::read(table, &mut places))
 }
 
@@ -53,14 +53,14 @@ pub extern "C" fn mezdaulk_check(table: &[u8]) -> u64
 pub extern "C" fn mezdaulk_start(table: &[u8], pool: &mut [i32]) -> u64
     ensures { λ r. ⌜ Contracts.Start (now (table .entry)) (now (pool .entry)) r (now (pool .exit)) ⌝ }
 {
-    done(machine::start(table, pool))
+    done(calls::start(table, pool))
 }
 
 #[no_mangle]
 pub extern "C" fn mezdaulk_choose(table: &[u8], pool: &mut [i32], kind: u32, thread: u32) -> u64
     ensures { λ r. ⌜ Contracts.Choose (now (table .entry)) (now (pool .entry)) kind thread r (now (pool .exit)) ⌝ }
 {
-    match machine::choose(table, pool, kind, thread) {
+    match calls::choose(table, pool, kind, thread) {
         Chosen::Rule(rule) => answers::value(rule as u32),
         Chosen::Refused(why) => answers::code(why),
     }
@@ -70,7 +70,7 @@ pub extern "C" fn mezdaulk_choose(table: &[u8], pool: &mut [i32], kind: u32, thr
 pub extern "C" fn mezdaulk_which(table: &[u8], pool: &[i32]) -> u64
     ensures { λ r. ⌜ Contracts.Which (now (table .entry)) (now (pool .entry)) r ⌝ }
 {
-    match machine::which(table, pool) {
+    match calls::which(table, pool) {
         Stepping::Thread(i) => answers::value(i as u32),
         Stepping::Nobody => answers::value(NO_THREAD),
         Stepping::Refused(why) => answers::code(why),
@@ -106,7 +106,7 @@ fn put_values(count: u8, found: [i32; 4], values: &mut [i32; 4]) -> u64
 pub extern "C" fn mezdaulk_values(table: &[u8], pool: &[i32], values: &mut [i32; 4]) -> u64
     ensures { λ r. ⌜ Contracts.Values (now (table .entry)) (now (pool .entry)) (now (values .entry)) r (now (values .exit)) ⌝ }
 {
-    let m = machine::values(table, pool);
+    let m = calls::values(table, pool);
     let found = m.values;
     let state = m.state;
     match state {
@@ -132,7 +132,8 @@ pub extern "C" fn mezdaulk_schedule(
     choices: &[Choice],
     made: &mut u64,
 ) -> u64
-    ensures { λ r. ⌜ Contracts.Schedule (now (table .entry)) (now (pool .entry)) (choicesOf (now (choices .entry))) r (now (made .exit)) (now (pool .exit)) ⌝ }
+    ensures { λ r. ⌜ Contracts.Schedule (now (table .entry)) (now (pool .entry)) (choicesOf (now (choices .entry))) r (now (made .exit))
+        (now (pool .exit)) ⌝ }
 {
     report(schedule::schedule(table, pool, choices), made)
 }

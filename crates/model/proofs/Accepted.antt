@@ -10,21 +10,25 @@ use lib.Dec.{eqb}
 use lib.ListN.{getElem?}
 use Rattle.model.specs.Answers as Answers
 use Rattle.model.specs.Answers.{Answer}
-use Rattle.model.specs.Lists.{all, Each, equal, unsnoc}
+use Rattle.model.specs.Lists.{Each, equal, unsnoc}
 use Rattle.model.specs.Sets.{has, with, below, _∈_}
 use Rattle.model.specs.Syntax.{Statement, Transfer, Head, Block, SpawnCall, Function, Program}
 use Rattle.model.specs.Tests.{fault}
-use Rattle.model.specs.WellFormed.{Env, env, WF-cont, WF-transfer, WF-code, Fresh, Nested, WF-block, WF-spawn, WF-entry, WF-fun, WF-prog}
+use Rattle.model.specs.WellFormed.{Env, env, WF-cont, WF-transfer, WF-code, Fresh, Nested, WF-block, WF-spawn, WF-entry, WF-fun}
+use Rattle.model.specs.WellFormed.{WF-prog}
 use Rattle.model.specs.Check as Check
 use Rattle.model.specs.Check.{Placed, at, firstFault, judge}
 use Rattle.model.specs.Calls.{read, check}
 use Rattle.model.specs.Limits.{InFunction, Limits}
-use Rattle.model.proofs.Facts.{eqb-true, eq-eqb, ne-eqb, not-true, false-not, and-left, and-right, both-and, left-or, right-or, all-each, each-all, each-map, equal-same, same-equal, unsnoc-some, unsnoc-snoc, below-at, refused-given, none-some, some-injective}
+use Rattle.model.proofs.Facts.{eqb-true, eq-eqb, ne-eqb, not-true, false-not, and-left, and-right, both-and, left-or, right-or}
+use Rattle.model.proofs.Facts.{all-each, each-all, each-map, equal-same, same-equal, unsnoc-some, unsnoc-snoc, below-at}
+use Rattle.model.proofs.Facts.{refused-given, none-some, some-injective}
 use Rattle.model.proofs.Holds.{Holds, sound, complete}
 use Rattle.model.proofs.Guarantees.{read-limits}
 
 -- a target: there, and its three facts as tests
-cont : {E : Env} {Γ : ℕ} {ρ : List ℕ} {b r : ℕ} (H : Head) → E .block b ≡ some H → Holds (Check.takes H r) → Holds (Check.nests H ρ) → Holds (Check.scoped H Γ) → WF-cont E Γ ρ b r
+cont : {E : Env} {Γ : ℕ} {ρ : List ℕ} {b r : ℕ} (H : Head) → E .block b ≡ some H → Holds (Check.takes H r) → Holds (Check.nests H ρ)
+    → Holds (Check.scoped H Γ) → WF-cont E Γ ρ b r
 unfolding Check.takes Check.nests Check.scoped
 cont H e t n s = record { head = H; there = e; takes = eqb-true _ _ t; nests = equal-same _ _ n; scoped = s }
 
@@ -67,7 +71,14 @@ transfer E Γ ρ (Transfer.spork b π) h =
     (record { call = S; there = thereS }, cont B there t n s)
 transfer E Γ ρ (Transfer.spoin b c) h =
     let (B, thereB, (C, thereC, (I, is, (S, thereS, (G, thereG, (tB, (tC, (nB, (nC, (sB, sC)))))))))) = h in (
-      record { front = I .front; last = I .last; is = unsnoc-some ρ I is; spawned = record { call = S; there = thereS }; callee = G; there = thereG },
+      record {
+        front = I .front;
+        last = I .last;
+        is = unsnoc-some ρ I is;
+        spawned = record { call = S; there = thereS };
+        callee = G;
+        there = thereG;
+      },
       cont B thereB tB nB sB,
       cont C thereC tC nC sC,
     )
@@ -145,12 +156,22 @@ entry-back n H h =
 -- a block; the entry's facts are asked of block 0 only
 pub block : (E : Env) (b : ℕ) (B : Block) → Holds (Check.block E b B) → WF-block E B
 unfolding Check.block
-block E b B (_, (f, (n, c))) = record { fresh = fresh _ _ f; nested = each-map (nested E (B .head .scope)) (B .head .nesting) n; code = code E _ _ _ _ c }
+block E b B (_, (f, (n, c))) = record {
+  fresh = fresh _ _ f;
+  nested = each-map (nested E (B .head .scope)) (B .head .nesting) n;
+  code = code E _ _ _ _ c;
+}
 
-pub block-back : (E : Env) (b : ℕ) (B : Block) → (not (eqb b 0) || Check.isEntry (E .own .parameters) (B .head)) ≡ true → WF-block E B → Holds (Check.block E b B)
+pub block-back : (E : Env) (b : ℕ) (B : Block) → (not (eqb b 0) || Check.isEntry (E .own .parameters) (B .head)) ≡ true → WF-block E B
+    → Holds (Check.block E b B)
 unfolding Check.block
-block-back E b B e h =
-    (e, (fresh-back _ _ (h .fresh), (each-map (nested-back E (B .head .scope)) (B .head .nesting) (h .nested), code-back E _ _ _ _ (h .code))))
+block-back E b B e h = (
+  e,
+  (
+    fresh-back _ _ (h .fresh),
+    (each-map (nested-back E (B .head .scope)) (B .head .nesting) (h .nested), code-back E _ _ _ _ (h .code)),
+  ),
+)
 
 pub spawn : (E : Env) (S : SpawnCall) → Holds (Check.spawn E S) → WF-spawn E S
 unfolding Check.spawn
@@ -182,7 +203,8 @@ unfolding firstFault at
 first-sound [] e = tt
 first-sound (p ∷ ps) e = go (fault (p .tests)) refl e (first-sound ps)
   where
-    go : (o : Option ℕ) → fault (p .tests) ≡ o → at p o (firstFault ps) ≡ Answer.given tt → (firstFault ps ≡ Answer.given tt → AllHold ps) → Holds (p .tests) × AllHold ps
+    go : (o : Option ℕ) → fault (p .tests) ≡ o → at p o (firstFault ps) ≡ Answer.given tt → (firstFault ps ≡ Answer.given tt → AllHold ps)
+        → Holds (p .tests) × AllHold ps
     go none q e ih = (sound (p .tests) q, ih e)
     go (some n) q e ih = refused-given e
 
@@ -197,7 +219,8 @@ unfolding Check.ofBlocks
 blocks E f b [] h = tt
 blocks E f b (B ∷ B̄) (h, hs) = (block E b B h, blocks E f (b + 1) B̄ hs)
 
-first-entry : (E : Env) (f : ℕ) (B̄ : List Block) (B : Block) → getElem? B̄ 0 ≡ some B → AllHold (Check.ofBlocks E f 0 B̄) → WF-entry (E .own .parameters) (B .head)
+first-entry : (E : Env) (f : ℕ) (B̄ : List Block) (B : Block) → getElem? B̄ 0 ≡ some B → AllHold (Check.ofBlocks E f 0 B̄)
+    → WF-entry (E .own .parameters) (B .head)
 unfolding Check.ofBlocks Check.block
 first-entry E f [] B e h = none-some e
 first-entry E f (C ∷ B̄) B e ((h, _), hs) = entry _ _ (rw (some-injective e) at h)
@@ -208,7 +231,8 @@ later E f b [] h = tt
 later E f b (B ∷ B̄) (h, hs) =
     (block-back E (b + 1) B (left-or _ _ (false-not _ (ne-eqb (b + 1) 0 (λ e. omega arith)))) h, later E f (b + 1) B̄ hs)
 
-blocks-back : (E : Env) (f : ℕ) (B̄ : List Block) (B : Block) → getElem? B̄ 0 ≡ some B → WF-entry (E .own .parameters) (B .head) → Each (WF-block E) B̄ → AllHold (Check.ofBlocks E f 0 B̄)
+blocks-back : (E : Env) (f : ℕ) (B̄ : List Block) (B : Block) → getElem? B̄ 0 ≡ some B → WF-entry (E .own .parameters) (B .head)
+    → Each (WF-block E) B̄ → AllHold (Check.ofBlocks E f 0 B̄)
 unfolding Check.ofBlocks
 blocks-back E f [] B e n h = tt
 blocks-back E f (C ∷ B̄) B e n (h, hs) =

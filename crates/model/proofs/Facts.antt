@@ -12,7 +12,8 @@ use lib.Dec.{eqb}
 use lib.ListN.{length, getElem?, drop}
 use Rattle.model.specs.Answers.{Refusal, Answer}
 use Rattle.model.specs.Lists.{all, Each, equal, Snoc, snoc, unsnoc}
-pub use borrow.Author.Tests.{ltb-true, ltb-false, leb-true, leb-false, eqb-true, eqb-false, not-true, not-false, lt-ltb, le-ltb, le-leb, lt-leb, eq-eqb, ne-eqb}
+pub use borrow.Author.Tests.{ltb-true, ltb-false, leb-true, leb-false, eqb-true, eqb-false, not-true, not-false, lt-ltb, le-ltb, le-leb}
+pub use borrow.Author.Tests.{lt-leb, eq-eqb, ne-eqb}
 
 -- one value is not two
 pub true-false : {A : Type 0} (b : Bool) → b ≡ true → b ≡ false → A

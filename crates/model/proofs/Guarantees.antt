@@ -9,7 +9,7 @@ use lib.Dec.{eqb}
 use lib.ListN.{length, getD}
 use Rattle.model.specs.Answers.{Refusal, Answer}
 use Rattle.model.specs.Lists.{Each}
-use Rattle.model.specs.Syntax.{Atom, Expression, Transfer, Program, usesAtom, uses}
+use Rattle.model.specs.Syntax.{Atom, Expression, Transfer, Head, Program, usesAtom, uses}
 use Rattle.model.specs.Read as Read
 use Rattle.model.specs.Read.{Parsed, Parser, byte, many, counted, pick, read}
 use Rattle.model.specs.Values.{signed}
@@ -29,7 +29,8 @@ module _ {A : Type 0} where
   pub gives-more : {p : Parser A} {Q R : A → Type 0} → Gives p Q → ((a : A) → Q a → R a) → Gives p R
   gives-more h f = record { gives = λ s at a k e. f a (h .gives s at a k e) }
 
-  pub gives-then : {B : Type 0} {p : Parser A} {f : A → Parser B} {Q : A → Type 0} {R : B → Type 0} → Gives p Q → ((a : A) → Q a → Gives (f a) R) → Gives (Read._>>=_ p f) R
+  pub gives-then : {B : Type 0} {p : Parser A} {f : A → Parser B} {Q : A → Type 0} {R : B → Type 0} → Gives p Q
+      → ((a : A) → Q a → Gives (f a) R) → Gives (Read._>>=_ p f) R
   gives-then {B} {p} {f} h g =
       record {
         gives = λ s at b k e.
@@ -84,7 +85,7 @@ arguments = few 8
 pub atom : Gives Read.atom (λ m. Temporaries (usesAtom m))
 unfolding Read.atom Read.value Read.variable usesAtom
 atom =
-    gives-then (gives-byte 0 1) λ k _. gives-pick _ (Read.value ∷ Read.variable ∷ []) k (
+    gives-then (gives-byte 0 1) λ k _. gives-pick _ Read.atoms k (
       gives-then word (λ n _. gives-pure (Atom.value (signed n)) tt),
       (gives-then temporary (λ x h. gives-pure (Atom.temporary x) (h, tt)), tt),
     )
@@ -108,7 +109,9 @@ expression =
 
 pub statement : Gives Read.statement InStatement
 unfolding Read.statement
-statement = gives-then temporary λ x h. gives-then expression λ e g. gives-pure (record { target = x; source = e }) (record { target = h; source = g })
+statement =
+    gives-then temporary λ x h. gives-then expression λ e g. gives-pure (record { target = x; source = e })
+    (record { target = h; source = g })
 
 pub transfer : Gives Read.transfer InTransfer
 unfolding Read.transfer Read.goto Read.if Read.call Read.return Read.spork Read.spoin InTransfer
@@ -136,22 +139,23 @@ head =
     gives-then arguments λ x̄ p. gives-then half λ Γ q. gives-then (gives-counted 4 name) λ ρ r.
     gives-pure (record { parameters = x̄; scope = Γ; nesting = ρ }) (record { parameters = p; scope = q; nesting = r .1 })
 
-pub block : Gives Read.block InBlock
-unfolding Read.block
-block =
-    gives-then head λ h p. gives-then (gives-counted 32 statement) λ c q. gives-then transfer λ t r.
+-- a block, a function and a program, by any head that keeps to its limits
+pub blockBy : {p : Parser Head} → Gives p InHead → Gives (Read.blockBy p) InBlock
+unfolding Read.blockBy
+blockBy g =
+    gives-then g λ h p. gives-then (gives-counted 32 statement) λ c q. gives-then transfer λ t r.
     gives-pure (record { head = h; code = c; transfer = t }) (record { head = p; few = q .1; code = q .0; transfer = r })
 
 pub spawnCall : Gives Read.spawnCall InSpawn
 unfolding Read.spawnCall
 spawnCall = gives-then name λ g _. gives-then arguments λ x̄ h. gives-pure (record { function = g; arguments = x̄ }) h
 
-pub function : Gives Read.function InFunction
-unfolding Read.function
-function =
+pub functionBy : {p : Parser Head} → Gives p InHead → Gives (Read.functionBy p) InFunction
+unfolding Read.functionBy
+functionBy i =
     gives-then (gives-byte 0 8) λ n p. gives-then (gives-byte 0 4) λ r q.
     gives-then (gives-byte 1 32) λ b bs. gives-then (gives-byte 0 8) λ c cs.
-    gives-then (gives-many spawnCall c) λ π̄ h. gives-then (gives-many block b) λ B̄ g.
+    gives-then (gives-many spawnCall c) λ π̄ h. gives-then (gives-many (blockBy i) b) λ B̄ g.
     gives-pure (record { signature = record { parameters = n; returns = r }; spawns = π̄; blocks = B̄ })
     (record {
       parameters = p .1;
@@ -163,19 +167,29 @@ function =
       blocks = g .0;
     })
 
-pub program : Gives Read.program Limits
-unfolding Read.program
-program =
-    gives-then (gives-byte 1 16) λ n b. gives-more (gives-many function n) λ P h.
+pub programBy : {p : Parser Head} → Gives p InHead → Gives (Read.programBy p) Limits
+unfolding Read.programBy
+programBy i =
+    gives-then (gives-byte 1 16) λ n b. gives-more (gives-many (functionBy i) n) λ P h.
     record { some = omega arith; few = omega arith; functions = h .0 }
+
+pub block : Gives Read.block InBlock
+block = blockBy head
+
+pub function : Gives Read.function InFunction
+function = functionBy head
+
+pub program : Gives Read.program Limits
+program = programBy head
 
 -- what reads has its sizes and version, and is a program that ends where the table ends
 pub record Reads (s : List ℕ) (P : Program) : Type 0 where
-  pub sized : Read.sized s ≡ true
+  pub sized : Read.sized s (Read.lengthField s) ≡ true
   pub version : eqb (getD s 4 0) 1 ≡ true
   pub program : Read.program s 5 ≡ Parsed.ok P (length s)
 
-cond-given : {A : Type 0} (b : Bool) (x : Answer A) (r : Refusal) {a : A} → cond b x (Answer.refused r) ≡ Answer.given a → (b ≡ true) × (x ≡ Answer.given a)
+cond-given : {A : Type 0} (b : Bool) (x : Answer A) (r : Refusal) {a : A} → cond b x (Answer.refused r) ≡ Answer.given a
+    → (b ≡ true) × (x ≡ Answer.given a)
 cond-given true x r e = (refl, e)
 cond-given false x r e = refused-given e
 
@@ -188,14 +202,14 @@ whole-given s (Parsed.ok Q at) P e =
     cc
 
 pub reads : (s : List ℕ) (P : Program) → read s ≡ Answer.given P → Reads s P
-unfolding read
+unfolding read Read.readFrom
 reads s P e =
-    let (sized, e₁) = cond-given (Read.sized s) _ _ e in
+    let (sized, e₁) = cond-given (Read.sized s (Read.lengthField s)) _ _ e in
     let (version, e₂) = cond-given (eqb (getD s 4 0) 1) _ _ e₁ in
     record { sized = sized; version = version; program = whole-given s (Read.program s 5) P e₂ }
 
 pub reads-back : (s : List ℕ) (P : Program) → Reads s P → read s ≡ Answer.given P
-unfolding read Read.whole
+unfolding read Read.readFrom Read.whole
 reads-back s P r = rw (r .sized, r .version, r .program, eq-eqb (length s) (length s) refl)
 
 pub read-limits : (s : List ℕ) (P : Program) → read s ≡ Answer.given P → Limits P

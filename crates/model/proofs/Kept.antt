@@ -17,18 +17,20 @@ use Rattle.model.specs.Values.{same}
 use Rattle.model.specs.Sets.{has, with}
 use Rattle.model.specs.Syntax.{Expression, Statement, Transfer, Block, Function, Program}
 use Rattle.model.specs.Limits.{Temporaries, InStatement, InBlock, InFunction, Limits}
-use Rattle.model.specs.Pool.{Frame, Thread, Pool, temporaries, mostCalls, mostFrames, mostThreads, frames, begin, functionOf, blockIn, blockOf, children, trees, wordsOf, isPool}
+use Rattle.model.specs.Pool.{Frame, Thread, Pool, temporaries, mostCalls, mostFrames, mostThreads, frames, born, restacked, begin}
+use Rattle.model.specs.Pool.{functionOf, blockIn, blockOf, children, trees, wordsOf, isPool}
 use Rattle.model.specs.Frames.{_>>=_, when, lookAll, eval, bind, bindAll, goTo, deque, entering, enter, callee}
 use Rattle.model.specs.Rules
 use Rattle.model.specs.Rules.{Act, by, acts, act, Result, Promotion, choice}
 use Rattle.model.specs.Answers.{Answer}
 use Rattle.model.specs.Calls.{Lent, lent, made, chosen, choose}
-use Rattle.model.proofs.Facts.{refused-given, ltb-true, ltb-false, eqb-true, at-below, at-past, each-at, each-append, each-left, true-false, none-some, some-injective, unsnoc-some, equal-same}
+use Rattle.model.proofs.Facts.{refused-given, ltb-true, ltb-false, eqb-true, at-below, at-past, each-at, each-append, each-left}
+use Rattle.model.proofs.Facts.{true-false, none-some, some-injective, unsnoc-some, equal-same}
 use Rattle.model.proofs.Guarantees.{read-limits}
 use Rattle.model.proofs.Members.{with-lt}
 use Rattle.model.proofs.Sets.{with-same, with-other}
 use Rattle.model.specs.Valid.{Stands, IsFrame, IsOlder, Settled, Ordered, IsThread, IsPool}
-use Rattle.model.proofs.Valid.{pool-facts, facts-pool}
+use Rattle.model.proofs.Valid.{pool-facts, facts-pool, Upright, upright-order, thread-upright, restacked-frames, upright-thread}
 use Rattle.model.proofs.Words.{begin-frame, begin-thread, IsLent, lent-given, lent-words}
 
 -- Q of what an option holds
@@ -158,7 +160,9 @@ module _ {P : Program} (L : Limits P) where
       on-bind (Goes P (k .promoted)) (blockOf P k b) _ λ B e.
       on-when (Goes P (k .promoted)) (eqb (length (B .head .parameters)) (length v̄)) _ λ q.
       record {
-        frame = bindAll-kept (goTo k b 0) (B .head .parameters) v̄ (block-in (h .stands) b e .head .parameters .each) (goTo-kept k b 0 e zero-le h);
+        frame =
+            bindAll-kept (goTo k b 0) (B .head .parameters) v̄ (block-in (h .stands) b e .head .parameters .each)
+            (goTo-kept k b 0 e zero-le h);
         promoted = bindAll-promoted (goTo k b 0) (B .head .parameters) v̄;
       }
 
@@ -174,7 +178,8 @@ module _ {P : Program} (L : Limits P) where
       }
 
   -- what each code does
-  stmt-kept : (k : Frame) (B : Block) (x : Statement) → IsFrame P k → blockOf P k (k .block) ≡ some B → getElem? (B .code) (k .done) ≡ some x
+  stmt-kept : (k : Frame) (B : Block) (x : Statement) → IsFrame P k → blockOf P k (k .block) ≡ some B
+      → getElem? (B .code) (k .done) ≡ some x
       → Does P k (Rules.stmt k x)
   unfolding Rules.stmt goTo bind blockOf functionOf
   stmt-kept k B x h e g =
@@ -226,7 +231,8 @@ module _ {P : Program} (L : Limits P) where
       (on-bind (Goes P (k .promoted)) (functionOf P k) _ λ F f.
       on-bind (Goes P (k .promoted)) (getElem? (F .spawns) π) _ λ S e.
       on-when (Goes P (k .promoted)) (ltb (length (k .calls)) mostCalls) _ λ q.
-      enter-kept (deque k (k .calls ++ (π ∷ [])) (k .promoted)) b [] (opened F f (at-below (F .spawns) π e) (ltb-true (length (k .calls)) mostCalls q)))
+      enter-kept (deque k (k .calls ++ (π ∷ [])) (k .promoted)) b []
+      (opened F f (at-below (F .spawns) π e) (ltb-true (length (k .calls)) mostCalls q)))
     where
       opened : (F : Function) → functionOf P k ≡ some F → π < length (F .spawns) → length (k .calls) < mostCalls
           → IsFrame P (deque k (k .calls ++ (π ∷ [])) (k .promoted))
@@ -319,13 +325,13 @@ module _ {P : Program} (L : Limits P) where
       alone [] (Act.join l c) d q = none-some q
       alone (k ∷ K) a d q = none-some q
 
-  -- a thread with another newest frame
-  top-kept : (c m n rule : ℕ) (k : Frame) (K : List Frame) (ts : List Thread) (o : Option Frame) → suc (length K) ≤ mostFrames
+  -- a thread with the frame j over K
+  top-kept : (c m n rule : ℕ) (t : Thread) (k : Frame) (K : List Frame) (ts : List Thread) (o : Option Frame) → suc (length K) ≤ mostFrames
       → Each (IsOlder P) K → Ordered (k ∷ K) → n ≤ k .promoted → Each (IsThread P) ts → trees (n + children K + c) ts ≡ true
-      → suc (length ts) ≤ m → OnSome (Goes P n) o → Keeps P (suc c) m (Rules.onTop rule K ts o)
+      → suc (length ts) ≤ m → OnSome (Goes P n) o → Keeps P (suc c) m (Rules.onTop rule t K ts o)
   unfolding Rules.onTop trees children
-  top-kept c m n rule k K ts none few older order l each tree fits g = tt
-  top-kept c m n rule k K ts (some j) few older order l each tree fits g =
+  top-kept c m n rule t k K ts none few older order l each tree fits g = tt
+  top-kept c m n rule t k K ts (some j) few older order l each tree fits g =
       record {
         each = (
           record {
@@ -341,41 +347,40 @@ module _ {P : Program} (L : Limits P) where
       }
 
   -- return: the callee's frame has no calls
-  popping-kept : (c : ℕ) (k : Frame) (K : List Frame) (ts : List Thread) (v̄ : List ℤ) → IsThread P (record { newest = k; older = K })
-      → k .calls ≡ [] → Each (IsThread P) ts → trees (children (k ∷ K) + c) ts ≡ true
-      → Keeps P (suc c) (suc (length ts)) (Rules.popping P K ts v̄)
+  popping-kept : (c : ℕ) (t : Thread) (k : Frame) (K : List Frame) (ts : List Thread) (v̄ : List ℤ) → suc (length K) ≤ mostFrames
+      → Upright P (k ∷ K) → k .calls ≡ [] → Each (IsThread P) ts → trees (children (k ∷ K) + c) ts ≡ true
+      → Keeps P (suc c) (suc (length ts)) (Rules.popping P t K ts v̄)
   unfolding Rules.popping children
-  popping-kept c k [] ts v̄ h e each tree = tt
-  popping-kept c k (l ∷ K) ts v̄ h e each tree =
-      let n : k .promoted ≤ length (k .calls) = h .newest .promoted in
+  popping-kept c t k [] ts v̄ few h e each tree = tt
+  popping-kept c t k (l ∷ K) ts v̄ few h e each tree =
+      let n : k .promoted ≤ length (k .calls) = h .0 .promoted in
       let z : length (k .calls) ≡ 0 = ap length e in
-      let f : suc (suc (length K)) ≤ mostFrames = h .few in
-      top-kept c (suc (length ts)) (l .promoted) No.return l K ts (enter P l (l .block) v̄) (omega arith)
-      (h .older .1) (h .order .1) (omega arith) each (same-tree ts tree (omega arith)) (omega arith)
-      (enter-kept L l (l .block) v̄ (h .older .0 .frame))
+      top-kept c (suc (length ts)) (l .promoted) No.return t l K ts (enter P l (l .block) v̄) (omega arith)
+      (h .1 .1) (h .2 .1) (omega arith) each (same-tree ts tree (omega arith)) (omega arith)
+      (enter-kept L l (l .block) v̄ (h .1 .0 .frame))
 
-  module _ (c : ℕ) (k : Frame) (K : List Frame) (h : IsThread P (record { newest = k; older = K })) where
+  module _ (c : ℕ) (t : Thread) (h : IsThread P t) where
     -- a join: the ended child goes
-    joins-kept : (l : Frame) (b : ℕ) (ts : List Thread) → IsFrame P l → k .promoted ≡ suc (l .promoted) → Each (IsThread P) ts
-        → trees (children (k ∷ K) + c) ts ≡ true → Keeps P (suc c) (suc (length ts)) (Rules.joins P l b K ts)
+    joins-kept : (l : Frame) (b : ℕ) (ts : List Thread) → IsFrame P l → t .newest .promoted ≡ suc (l .promoted) → Each (IsThread P) ts
+        → trees (children (frames t) + c) ts ≡ true → Keeps P (suc c) (suc (length ts)) (Rules.joins P t l b ts)
     unfolding Rules.joins Rules.joining children
     joins-kept l b [] f q each tree = tt
-    joins-kept l b (t ∷ ts) f q each tree = go (Rules.ended P t) refl
+    joins-kept l b (u ∷ ts) f q each tree = go (Rules.ended P u) refl
       where
-        go : (o : Option (List ℤ)) → Rules.ended P t ≡ o → Keeps P (suc c) (suc (suc (length ts))) (Rules.joining P l b K ts o)
+        go : (o : Option (List ℤ)) → Rules.ended P u ≡ o → Keeps P (suc c) (suc (suc (length ts))) (Rules.joining P t l b ts o)
         go none e = tt
         go (some v̄) e =
-            let child : trees (suc (l .promoted + children K + c)) (t ∷ ts) ≡ true = same-tree (t ∷ ts) tree (omega arith) in
-            top-kept c (suc (suc (length ts))) (l .promoted) No.prom k K ts (enter P l b v̄) (h .few) (h .older) (h .order) (omega arith)
-            (each .1)
-            (sym (leaf-tree (l .promoted + children K + c) t ts (ended-leaf t (each .0) e)) ∙ child)
-            (omega arith)
-            (enter-kept L l b v̄ f)
+            let n : ℕ = l .promoted + children (t .older) + c in
+            let child : trees (suc n) (u ∷ ts) ≡ true = same-tree (u ∷ ts) tree (omega arith) in
+            let left : trees n ts ≡ true = sym (leaf-tree n u ts (ended-leaf u (each .0) e)) ∙ child in
+            top-kept c (suc (suc (length ts))) (l .promoted) No.prom t (t .newest) (t .older) ts (enter P l b v̄) (h .few) (h .older)
+            (h .order) (omega arith) (each .1) left (omega arith) (enter-kept L l b v̄ f)
 
     -- a call: the caller gets a newer frame, with nothing promoted
-    push-kept : (l m : Frame) (ts : List Thread) → Pushes P (k .promoted) l m → suc (length K) < mostFrames → Each (IsThread P) ts
-        → trees (children (k ∷ K) + c) ts ≡ true
-        → Threads P (suc c) (suc (length ts)) (record { newest = m; older = l ∷ K } ∷ ts)
+    push-kept : (l m : Frame) (ts : List Thread) → Pushes P (t .newest .promoted) l m → length (frames t) < mostFrames
+        → Each (IsThread P) ts
+        → trees (children (frames t) + c) ts ≡ true
+        → Threads P (suc c) (suc (length ts)) (restacked t (m ∷ l ∷ t .older) ∷ ts)
     unfolding trees children
     push-kept l m ts d few each tree =
         record {
@@ -392,85 +397,87 @@ module _ {P : Program} (L : Limits P) where
           few = omega arith;
         }
 
-    apply-kept : (ts : List Thread) (a : Act) → Does P k a → Each (IsThread P) ts → trees (children (k ∷ K) + c) ts ≡ true
-        → Keeps P (suc c) (suc (length ts)) (Rules.apply P K ts a)
+    apply-kept : (ts : List Thread) (a : Act) → Does P (t .newest) a → Each (IsThread P) ts → trees (children (frames t) + c) ts ≡ true
+        → Keeps P (suc c) (suc (length ts)) (Rules.apply P t ts a)
     unfolding Rules.apply Rules.onTop children
     apply-kept ts (Act.refuse n) d each tree = tt
     apply-kept ts (Act.stay rule l) d each tree =
-        top-kept c (suc (length ts)) (k .promoted) rule k K ts (some l) (h .few) (h .older) (h .order) (omega arith) each tree (omega arith) d
-    apply-kept ts (Act.push l m) d each tree = go (ltb (suc (length K)) mostFrames) refl
+        top-kept c (suc (length ts)) (t .newest .promoted) rule t (t .newest) (t .older) ts (some l) (h .few) (h .older) (h .order)
+        (omega arith) each tree (omega arith) d
+    apply-kept ts (Act.push l m) d each tree = go (ltb (length (frames t)) mostFrames) refl
       where
-        go : (b : Bool) → ltb (suc (length K)) mostFrames ≡ b
-            → Keeps P (suc c) (suc (length ts)) (cond b (Result.made No.call (record { newest = m; older = l ∷ K } ∷ ts)) (Result.refused No.frames))
+        go : (b : Bool) → ltb (length (frames t)) mostFrames ≡ b
+            → Keeps P (suc c) (suc (length ts))
+            (cond b (Result.made No.call (restacked t (m ∷ l ∷ t .older) ∷ ts)) (Result.refused No.frames))
         go false q = tt
-        go true q = push-kept l m ts d (ltb-true (suc (length K)) mostFrames q) each tree
-    apply-kept ts (Act.pop v̄) d each tree = popping-kept c k K ts v̄ h d each tree
+        go true q = push-kept l m ts d (ltb-true (length (frames t)) mostFrames q) each tree
+    apply-kept ts (Act.pop v̄) d each tree = popping-kept c t (t .newest) (t .older) ts v̄ (h .few) (thread-upright P h) d each tree
     apply-kept ts (Act.join l b) d each tree = joins-kept l b ts (d .0) (d .1) each tree
 
   pub step-kept : (c : ℕ) (t : Thread) (ts : List Thread) → Each (IsThread P) (t ∷ ts) → trees (suc c) (t ∷ ts) ≡ true
       → Keeps P (suc c) (suc (length ts)) (Rules.step P t ts)
   unfolding Rules.step trees
-  step-kept c t ts each tree =
-      apply-kept c (t .newest) (t .older) (each .0) ts (act P (t .newest)) (act-kept L (t .newest) (each .0 .newest)) (each .1) tree
+  step-kept c t ts each tree = apply-kept c t (each .0) ts (act P (t .newest)) (act-kept L (t .newest) (each .0 .newest)) (each .1) tree
 
--- a promotion of the thread of k and K
-pub record Promotes (P : Program) (k : Frame) (K : List Frame) (p : Promotion) : Type 0 where
-  pub holder : IsFrame P (p .holder)
-  pub newest : IsFrame P (p .parent .newest)
-  pub done : p .parent .newest .done ≡ k .done
-  pub older : Each (IsOlder P) (p .parent .older)
-  pub order : Ordered (frames (p .parent))
-  pub long : length (p .parent .older) ≡ length K
-  pub more : children (frames (p .parent)) ≡ suc (children (k ∷ K))
-  pub unsettled : Each Settled (k ∷ K) → ⊥
+-- a promotion among the frames K, newest first
+pub record Promotes (P : Program) (K : List Frame) (p : Promotion) : Type 0 where
+  pub upright : Upright P (p .frames)
+  pub older : Each (IsOlder P) K → Each (IsOlder P) (p .frames)
+  pub long : length (p .frames) ≡ length K
+  pub more : children (p .frames) ≡ suc (children K)
+  pub unsettled : Each Settled K → ⊥
 
 -- there is a promotion, or every call is promoted
-abbrev pub Oldest : Program → Frame → List Frame → Option Promotion → Type 0
-Oldest P k K none = Each Settled (k ∷ K)
-Oldest P k K (some p) = Promotes P k K p
+abbrev pub Oldest : Program → List Frame → Option Promotion → Type 0
+Oldest P K none = Each Settled K
+Oldest P K (some p) = Promotes P K p
 
-module _ {P : Program} (L : Limits P) where
-  promoteIn-kept : (k : Frame) (K : List Frame) → IsFrame P k → Each (IsOlder P) K → Each Settled K → Ordered K
-      → Oldest P k K (Rules.promoteIn k K)
+module _ (P : Program) where
+  -- it is in the frame k, or in one of the older ones
+  in-kept : (k : Frame) (K : List Frame) → Upright P (k ∷ K) → Each Settled K → Oldest P (k ∷ K) (Rules.promoteIn k K)
   unfolding Rules.promoteIn deque children
-  promoteIn-kept k K h older settled order = go (getElem? (k .calls) (k .promoted)) refl
+  in-kept k K h settled = go (getElem? (k .calls) (k .promoted)) refl
     where
       go : (o : Option ℕ) → getElem? (k .calls) (k .promoted) ≡ o
-          → Oldest P k K (_>>=_ o λ π. some (record { holder = k; call = π; parent = record { newest = deque k (k .calls) (k .promoted + 1); older = K } }))
-      go none e = (omega (arith, h .promoted, at-past (k .calls) (k .promoted) e), settled)
+          → Oldest P (k ∷ K) (_>>=_ o λ π. some (record { holder = k; call = π; frames = deque k (k .calls) (k .promoted + 1) ∷ K }))
+      go none e = (omega (arith, h .0 .promoted, at-past (k .calls) (k .promoted) e), settled)
       go (some π) e =
           let l : k .promoted < length (k .calls) = at-below (k .calls) (k .promoted) e in
+          let f : IsFrame P (deque k (k .calls) (k .promoted + 1)) =
+          deque-kept k (k .calls) (k .promoted + 1) (h .0) (h .0 .stands .calls) (h .0 .few) (omega arith)
+          in
           record {
-            holder = h;
-            newest = deque-kept k (k .calls) (k .promoted + 1) h (h .stands .calls) (h .few) (omega arith);
-            done = refl;
-            older = older;
-            order = (λ _. settled, order);
+            upright = (f, h .1, (λ _. settled, h .2 .1));
+            older = λ o. (record { frame = f; fresh = o .0 .fresh }, o .1);
             long = refl;
             more = omega arith;
             unsettled = λ s. omega (arith, s .0);
           }
 
-  pub oldest-kept : (k : Frame) (K : List Frame) → IsFrame P k → Each (IsOlder P) K → Ordered (k ∷ K) → Oldest P k K (Rules.oldest k K)
-  unfolding Rules.oldest Rules.orElse children
-  oldest-kept k [] h older order = promoteIn-kept k [] h tt tt tt
-  oldest-kept k (l ∷ K) h older order = go (Rules.oldest l K) (oldest-kept l K (older .0 .frame) (older .1) (order .1))
-    where
-      go : (o : Option Promotion) → Oldest P l K o
-          → Oldest P k (l ∷ K) (Rules.orElse (Option·map (Rules.above k) o) (Rules.promoteIn k (l ∷ K)))
-      go none s = promoteIn-kept k (l ∷ K) h older s (order .1)
-      go (some p) d =
-          record {
-            holder = d .holder;
-            newest = h;
-            done = refl;
-            older = (record { frame = d .newest; fresh = d .done ∙ older .0 .fresh }, d .older);
-            order = (λ q. absurd (d .unsettled (order .0 q)), d .order);
-            long = ap suc (d .long);
-            more = omega (arith, d .more);
-            unsettled = λ s. d .unsettled (s .1);
-          }
+  above-kept : (k : Frame) (K : List Frame) (o : Option Promotion) → Upright P (k ∷ K) → Oldest P K o
+      → Oldest P (k ∷ K) (Rules.orElse (Option·map (Rules.above k) o) (Rules.promoteIn k K))
+  unfolding Rules.orElse children
+  above-kept k K none h s = in-kept k K h s
+  above-kept k K (some p) h d =
+      record {
+        upright = (h .0, d .older (h .1), (λ q. absurd (d .unsettled (h .2 .0 q)), upright-order P (p .frames) (d .upright)));
+        older = λ o. (o .0, d .older (o .1));
+        long = ap suc (d .long);
+        more = omega (arith, d .more);
+        unsettled = λ s. d .unsettled (s .1);
+      }
 
+  older-kept : (K : List Frame) → Each (IsOlder P) K → Ordered K → Oldest P K (Rules.oldest K)
+  unfolding Rules.oldest
+  older-kept [] h order = tt
+  older-kept (k ∷ K) h order = above-kept k K (Rules.oldest K) (h .0 .frame, h .1, order) (older-kept K (h .1) (order .1))
+
+  pub oldest-kept : {t : Thread} → IsThread P t → Oldest P (frames t) (Rules.oldest (frames t))
+  unfolding Rules.oldest
+  oldest-kept {t} h =
+      above-kept (t .newest) (t .older) (Rules.oldest (t .older)) (thread-upright P h) (older-kept (t .older) (h .older) (h .order .1))
+
+module _ {P : Program} (L : Limits P) where
   pub child-kept : (k : Frame) (π : ℕ) → OnSome (Goes P 0) (Rules.child P k π)
   unfolding Rules.child
   child-kept k π =
@@ -486,7 +493,7 @@ module _ {P : Program} (L : Limits P) where
   unfolding Rules.spawned trees children
   spawned-kept c m t u ts none fits h more each tree g = tt
   spawned-kept c m t u ts (some k) fits h more each tree g =
-      let leaf : Thread = record { newest = k; older = [] } in
+      let leaf : Thread = born k in
       let alone : children (frames leaf) ≡ 0 = omega (arith, g .promoted) in
       let one-more : suc (children (frames t) + c) ≡ children (frames u) + c = omega arith in
       record {
@@ -495,32 +502,33 @@ module _ {P : Program} (L : Limits P) where
         few = fits;
       }
 
-  promoting-kept : (room : Bool) (c : ℕ) (t : Thread) (ts : List Thread) (o : Option Promotion) → IsThread P t → Oldest P (t .newest) (t .older) o
+  promoting-kept : (room : Bool) (c : ℕ) (t : Thread) (ts : List Thread) (o : Option Promotion) → IsThread P t → Oldest P (frames t) o
       → Each (IsThread P) ts → trees (suc c) (t ∷ ts) ≡ true
-      → Keeps P (suc c) (cond room 1 0 + suc (length ts)) (Rules.promoting P room ts o)
+      → Keeps P (suc c) (cond room 1 0 + suc (length ts)) (Rules.promoting P room t ts o)
   unfolding Rules.promoting
   promoting-kept room c t ts none h d each tree = tt
   promoting-kept false c t ts (some p) h d each tree = tt
   promoting-kept true c t ts (some p) h d each tree =
-      spawned-kept c (1 + suc (length ts)) t (p .parent) ts (Rules.child P (p .holder) (p .call)) (omega arith) parent (d .more) each tree
+      let f : length (frames t) ≤ mostFrames = h .few in
+      let u = upright-thread P t (p .frames) (omega (arith, d .long)) (d .upright) in
+      let m : children (frames (restacked t (p .frames))) ≡ suc (children (frames t)) =
+      ap children (restacked-frames t (p .frames) (omega (arith, d .long))) ∙ d .more
+      in
+      spawned-kept c (1 + suc (length ts)) t (restacked t (p .frames)) ts (Rules.child P (p .holder) (p .call)) (omega arith) u m each tree
       (child-kept (p .holder) (p .call))
-    where
-      parent : IsThread P (p .parent)
-      parent =
-          let f : suc (length (t .older)) ≤ mostFrames = h .few in
-          record { few = omega (arith, d .long); newest = d .newest; older = d .older; order = d .order }
 
   pub promote-kept : (room : Bool) (c : ℕ) (t : Thread) (ts : List Thread) → Each (IsThread P) (t ∷ ts) → trees (suc c) (t ∷ ts) ≡ true
       → Keeps P (suc c) (cond room 1 0 + suc (length ts)) (Rules.promote P room t ts)
   unfolding Rules.promote
   promote-kept room c t ts each tree =
-      promoting-kept room c t ts (Rules.oldest (t .newest) (t .older)) (each .0)
-      (oldest-kept (t .newest) (t .older) (each .0 .newest) (each .0 .older) (each .0 .order)) (each .1) tree
+      promoting-kept room c t ts (Rules.oldest (frames t)) (each .0) (oldest-kept P (each .0)) (each .1) tree
 
 -- the threads in front stay as they are; at most e threads are added
 module _ (P : Program) (e : ℕ) (f : Thread → List Thread → Result)
-    (h : (c : ℕ) (t : Thread) (ts : List Thread) → Each (IsThread P) (t ∷ ts) → trees (suc c) (t ∷ ts) ≡ true → Keeps P (suc c) (e + suc (length ts)) (f t ts)) where
-  behind-kept : (n m : ℕ) (t : Thread) (r : Result) → IsThread P t → Keeps P (children (frames t) + n) m r → Keeps P (suc n) (suc m) (Rules.behind t r)
+    (h : (c : ℕ) (t : Thread) (ts : List Thread) → Each (IsThread P) (t ∷ ts) → trees (suc c) (t ∷ ts) ≡ true
+    → Keeps P (suc c) (e + suc (length ts)) (f t ts)) where
+  behind-kept : (n m : ℕ) (t : Thread) (r : Result) → IsThread P t → Keeps P (children (frames t) + n) m r
+      → Keeps P (suc n) (suc m) (Rules.behind t r)
   unfolding Rules.behind trees
   behind-kept n m t (Result.made rule ts) i k = record { each = (i, k .each); tree = k .tree; few = suc-le-suc (k .few) }
   behind-kept n m t (Result.refused r) i k = tt

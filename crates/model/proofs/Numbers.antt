@@ -25,7 +25,8 @@ use Rattle.model.specs.Check as Check
 use Rattle.model.specs.Check.{Placed, nowhere, at, firstFault, judge}
 use Rattle.model.specs.Limits.{InTransfer, InBlock, InFunction, Limits}
 use Rattle.model.specs.Pool
-use Rattle.model.specs.Pool.{Frame, Thread, Pool, mostFrames, mostThreads, poolWords, blockIn, blockOf, functionOf, arePool, poolOf}
+use Rattle.model.specs.Pool.{Frame, Thread, Pool, mostFrames, mostThreads, poolWords, frames, restacked, blockIn, blockOf, functionOf}
+use Rattle.model.specs.Pool.{arePool, poolOf}
 use Rattle.model.specs.Frames.{look, lookAll, eval, deque, enter, callee}
 use Rattle.model.specs.Rules
 use Rattle.model.specs.Rules.{Act, by, acts, act, Result, choice, mainValues}
@@ -174,7 +175,7 @@ inside-head =
     inside-then inside-arguments λ x̄. inside-then inside-half λ Γ. inside-then (inside-counted inside-name 4) λ ρ. inside-pure _
 
 inside-block : Inside Read.block
-unfolding Read.block
+unfolding Read.blockBy
 inside-block =
     inside-then inside-head λ h. inside-then (inside-counted inside-statement 32) λ c. inside-then inside-transfer λ t. inside-pure _
 
@@ -183,14 +184,14 @@ unfolding Read.spawnCall
 inside-spawn = inside-then inside-name λ g. inside-then inside-arguments λ x̄. inside-pure _
 
 inside-function : Inside Read.function
-unfolding Read.function
+unfolding Read.functionBy
 inside-function =
     inside-then (inside-byte 0 8) λ n. inside-then (inside-byte 0 4) λ r. inside-then (inside-byte 1 32) λ b.
     inside-then (inside-byte 0 8) λ c. inside-then (inside-many inside-spawn c) λ π̄. inside-then (inside-many inside-block b) λ B̄.
     inside-pure _
 
 inside-program : Inside Read.program
-unfolding Read.program
+unfolding Read.programBy
 inside-program = inside-then (inside-byte 1 16) (inside-many inside-function)
 
 -- a table's refusals: 1, 2, or 3 with a place in a table of the right size, or at its end
@@ -199,13 +200,13 @@ pub data OfTable (s : List ℕ) : Refusal → Type 0 where
   version : OfTable s (Refusal.plain No.version)
   form : {place : ℕ} → place ≤ length s → Within 6 16384 (length s) → OfTable s (Refusal.byte place)
 
-sized-within : (s : List ℕ) → Read.sized s ≡ true → Within 6 16384 (length s)
+sized-within : (s : List ℕ) (n : ℕ) → Read.sized s n ≡ true → Within 6 16384 (length s)
 unfolding Read.sized
-sized-within s e = tested 6 16384 (length s) (and-left (leb 6 (length s) && leb (length s) 16384) _ e)
+sized-within s n e = tested 6 16384 (length s) (and-left (leb 6 (length s) && leb (length s) 16384) _ e)
 
 pub read-can : (s : List ℕ) → Can Any (OfTable s) (read s)
-unfolding read Read.whole
-read-can s = go (Read.sized s) (eqb (getD s 4 0) 1) refl
+unfolding read Read.readFrom Read.whole
+read-can s = go (Read.sized s (Read.lengthField s)) (eqb (getD s 4 0) 1) refl
   where
     ends : (o : Parsed Program) → Stays s o → Within 6 16384 (length s) → Can Any (OfTable s) (Read.whole s o)
     ends (Parsed.bad place) l w = OfTable.form l w
@@ -215,11 +216,11 @@ read-can s = go (Read.sized s) (eqb (getD s 4 0) 1) refl
         left true = tt
         left false = OfTable.form l w
 
-    go : (b c : Bool) → Read.sized s ≡ b → Can Any (OfTable s)
+    go : (b c : Bool) → Read.sized s (Read.lengthField s) ≡ b → Can Any (OfTable s)
         (cond b
         (cond c (Read.whole s (Read.program s 5)) (Answer.refused (Refusal.plain No.version)))
         (Answer.refused (Refusal.plain No.size)))
-    go true true p = let w = sized-within s p in ends (Read.program s 5) (inside-program .stays s 5 (omega arith)) w
+    go true true p = let w = sized-within s _ p in ends (Read.program s 5) (inside-program .stays s 5 (omega arith)) w
     go true false p = OfTable.version
     go false c p = OfTable.size
 
@@ -232,7 +233,7 @@ pub record Heading (s : List ℕ) (P : Program) : Type 0 where
 
 function-returns : (s : List ℕ) (k : ℕ) {F : Function} {j : ℕ} → Read.function s k ≡ Parsed.ok F j →
     F .signature .returns ≡ getD s (k + 1) 0
-unfolding Read.function
+unfolding Read.functionBy
 function-returns s k {F} {j} e =
     let n = next-ok (byte 0 8 s k) _ e in
     let p = byte-ok 0 8 s k (n .value) (n .between) (n .first) in
@@ -253,7 +254,7 @@ function-returns s k {F} {j} e =
         gives-then (gives-many Guarantees.block b) λ B̄ _. gives-pure _ refl
 
 pub read-heading : (s : List ℕ) (P : Program) → read s ≡ Answer.given P → Heading s P
-unfolding Read.program many
+unfolding Read.programBy many
 read-heading s P e =
     let n = next-ok (byte 1 16 s 5) _ (reads s P e .program) in
     let b = byte-ok 1 16 s 5 _ _ (n .first) in
@@ -466,43 +467,48 @@ Results lo hi (Result.refused n) = Within No.kind No.threads n
 refuses : (n : ℕ) → (leb No.kind n && leb n No.threads) ≡ true → Within No.kind No.threads n
 refuses n e = tested No.kind No.threads n e
 
-top-results : (rule : ℕ) (K : List Frame) (ts : List Thread) (o : Option Frame) → (leb No.stmt rule && leb rule No.prom) ≡ true →
-    Results No.stmt No.prom (Rules.onTop rule K ts o)
+top-results : (rule : ℕ) (t : Thread) (K : List Frame) (ts : List Thread) (o : Option Frame) →
+    (leb No.stmt rule && leb rule No.prom) ≡ true → Results No.stmt No.prom (Rules.onTop rule t K ts o)
 unfolding Rules.onTop
-top-results rule K ts none h = refuses No.stuck refl
-top-results rule K ts (some k) h = tested No.stmt No.prom rule h
+top-results rule t K ts none h = refuses No.stuck refl
+top-results rule t K ts (some k) h = tested No.stmt No.prom rule h
 
-apply-results : (P : Program) (K : List Frame) (ts : List Thread) (a : Act) → Acts a → Results No.stmt No.prom (Rules.apply P K ts a)
-unfolding Rules.apply Rules.popping Rules.joins Rules.joining
-apply-results P K ts (Act.refuse n) h = rw h (refuses No.stuck refl)
-apply-results P K ts (Act.stay rule k) h = h
-apply-results P K ts (Act.push k l) h = go (ltb (suc (length K)) mostFrames)
+pop-results : (P : Program) (t : Thread) (K : List Frame) (ts : List Thread) (v̄ : List ℤ) →
+    Results No.stmt No.prom (Rules.popping P t K ts v̄)
+unfolding Rules.popping
+pop-results P t [] ts v̄ = refuses No.ended refl
+pop-results P t (k ∷ K) ts v̄ = top-results No.return t K ts (enter P k (k .block) v̄) refl
+
+apply-results : (P : Program) (t : Thread) (ts : List Thread) (a : Act) → Acts a → Results No.stmt No.prom (Rules.apply P t ts a)
+unfolding Rules.apply Rules.joins Rules.joining
+apply-results P t ts (Act.refuse n) h = rw h (refuses No.stuck refl)
+apply-results P t ts (Act.stay rule k) h = h
+apply-results P t ts (Act.push k l) h = go (ltb (length (frames t)) mostFrames)
   where
     go : (b : Bool) →
-        Results No.stmt No.prom (cond b (Result.made No.call (record { newest = l; older = k ∷ K } ∷ ts)) (Result.refused No.frames))
+        Results No.stmt No.prom (cond b (Result.made No.call (restacked t (l ∷ k ∷ t .older) ∷ ts)) (Result.refused No.frames))
     go true = tested No.stmt No.prom No.call refl
     go false = refuses No.frames refl
-apply-results P [] ts (Act.pop v̄) h = refuses No.ended refl
-apply-results P (k ∷ K) ts (Act.pop v̄) h = top-results No.return K ts (enter P k (k .block) v̄) refl
-apply-results P K [] (Act.join k c) h = refuses No.waits refl
-apply-results P K (t ∷ ts) (Act.join k c) h = go (Rules.ended P t)
+apply-results P t ts (Act.pop v̄) h = pop-results P t (t .older) ts v̄
+apply-results P t [] (Act.join k c) h = refuses No.waits refl
+apply-results P t (u ∷ ts) (Act.join k c) h = go (Rules.ended P u)
   where
-    go : (o : Option (List ℤ)) → Results No.stmt No.prom (Rules.joining P k c K ts o)
+    go : (o : Option (List ℤ)) → Results No.stmt No.prom (Rules.joining P t k c ts o)
     go none = refuses No.waits refl
-    go (some v̄) = top-results No.prom K ts (enter P k c v̄) refl
+    go (some v̄) = top-results No.prom t (t .older) ts (enter P k c v̄) refl
 
 promote-results : (P : Program) (room : Bool) (t : Thread) (ts : List Thread) → Results No.promote No.promote (Rules.promote P room t ts)
 unfolding Rules.promote Rules.promoting Rules.spawned
-promote-results P room t ts = go room (Rules.oldest (t .newest) (t .older))
+promote-results P room t ts = go room (Rules.oldest (frames t))
   where
     made : (u : Thread) (o : Option Frame) → Results No.promote No.promote (Rules.spawned u ts o)
     made u none = refuses No.stuck refl
     made u (some k) = tested No.promote No.promote No.promote refl
 
-    go : (b : Bool) (o : Option Rules.Promotion) → Results No.promote No.promote (Rules.promoting P b ts o)
+    go : (b : Bool) (o : Option Rules.Promotion) → Results No.promote No.promote (Rules.promoting P b t ts o)
     go b none = refuses No.promoted refl
     go false (some p) = refuses No.threads refl
-    go true (some p) = made (p .parent) (Rules.child P (p .holder) (p .call))
+    go true (some p) = made (restacked t (p .frames)) (Rules.child P (p .holder) (p .call))
 
 module _ (f : Thread → List Thread → Result) where
   thread-results : (lo hi : ℕ) → ((t : Thread) (ts : List Thread) → Results lo hi (f t ts)) → (p : Pool) (i : ℕ) →
@@ -536,7 +542,7 @@ choice-of P L p zero i = go (Rules.onThread f p i) (thread-results f No.stmt No.
     f = Rules.step P
 
     each : (t : Thread) (ts : List Thread) → Results No.stmt No.prom (Rules.step P t ts)
-    each t ts = apply-results P (t .older) ts _ (act-acts L (t .newest))
+    each t ts = apply-results P t ts _ (act-acts L (t .newest))
 
     go : (x : Result) → Results No.stmt No.prom x → ChoiceOf 0 x
     go (Result.made rule q) h = inl (refl, h)

@@ -58,7 +58,8 @@ byte-ok lo hi s at n k e = go (ltb at (length s)) (leb lo v && leb v hi) refl re
     v : ℕ
     v = getD s at 0
 
-    go : (b c : Bool) → ltb at (length s) ≡ b → (leb lo v && leb v hi) ≡ c → cond b (cond c (Parsed.ok v (at + 1)) (Parsed.bad at)) (Parsed.bad (length s)) ≡ Parsed.ok n k → Byte lo hi s at n k
+    go : (b c : Bool) → ltb at (length s) ≡ b → (leb lo v && leb v hi) ≡ c
+        → cond b (cond c (Parsed.ok v (at + 1)) (Parsed.bad at)) (Parsed.bad (length s)) ≡ Parsed.ok n k → Byte lo hi s at n k
     go true true p q e =
         let low : lo ≤ v = leb-true lo v (and-left _ (leb v hi) q) in
         let high : v ≤ hi = leb-true v hi (and-right (leb lo v) _ q) in
@@ -67,7 +68,8 @@ byte-ok lo hi s at n k e = go (ltb at (length s)) (leb lo v && leb v hi) refl re
     go true false p q e = bad-ok e
     go false c p q e = bad-ok e
 
-pub bad-byte : (lo hi : ℕ) (s : List ℕ) (at : ℕ) → at < length s → (leb lo (getD s at 0) && leb (getD s at 0) hi) ≡ false → byte lo hi s at ≡ Parsed.bad at
+pub bad-byte : (lo hi : ℕ) (s : List ℕ) (at : ℕ) → at < length s → (leb lo (getD s at 0) && leb (getD s at 0) hi) ≡ false
+    → byte lo hi s at ≡ Parsed.bad at
 unfolding byte
 bad-byte lo hi s at i e = rw (lt-ltb at (length s) i, e)
 
@@ -177,7 +179,8 @@ module _ {A : Type 0} (p : Parser A) where
       })
 
   -- i items, and then n more
-  pub many-add : (i n : ℕ) (s : List ℕ) (at : ℕ) {xs : List A} {k : ℕ} → many p i s at ≡ Parsed.ok xs k → many p (i + n) s at ≡ joined xs (many p n s k)
+  pub many-add : (i n : ℕ) (s : List ℕ) (at : ℕ) {xs : List A} {k : ℕ} → many p i s at ≡ Parsed.ok xs k
+      → many p (i + n) s at ≡ joined xs (many p n s k)
   unfolding many
   many-add zero n s at e =
       rw (zero-add n, ← ok-value e, ← ok-offset e) (sym (joined-none (many p n s at)))
@@ -189,17 +192,22 @@ module _ {A : Type 0} (p : Parser A) where
       joined-joined (u .item) (u .rest) _)
 
   -- one more item behind those read; and a place where the next does not read is that of them all
-  pub many-snoc : (i : ℕ) (s : List ℕ) (at : ℕ) {xs : List A} {x : A} {k l : ℕ} → many p i s at ≡ Parsed.ok xs k → p s k ≡ Parsed.ok x l → many p (i + 1) s at ≡ Parsed.ok (xs ++ (x ∷ [])) l
+  pub many-snoc : (i : ℕ) (s : List ℕ) (at : ℕ) {xs : List A} {x : A} {k l : ℕ} → many p i s at ≡ Parsed.ok xs k → p s k ≡ Parsed.ok x l
+      → many p (i + 1) s at ≡ Parsed.ok (xs ++ (x ∷ [])) l
   many-snoc i s at {xs} {x} {k} {l} e d =
-      many-add i 1 s at e ∙ ap (joined xs) (many-goes p s k 0 d ∙ ap (joined (x ∷ [])) (many-ends p s l) ∙ joined-ok _ _ _) ∙ joined-ok _ _ _
+      many-add i 1 s at e
+      ∙ ap (joined xs) (many-goes p s k 0 d ∙ ap (joined (x ∷ [])) (many-ends p s l) ∙ joined-ok _ _ _)
+      ∙ joined-ok _ _ _
 
-  pub many-stops : (i n : ℕ) (s : List ℕ) (at : ℕ) {xs : List A} {k place : ℕ} → many p i s at ≡ Parsed.ok xs k → i < n → p s k ≡ Parsed.bad place → many p n s at ≡ Parsed.bad place
+  pub many-stops : (i n : ℕ) (s : List ℕ) (at : ℕ) {xs : List A} {k place : ℕ} → many p i s at ≡ Parsed.ok xs k → i < n
+      → p s k ≡ Parsed.bad place → many p n s at ≡ Parsed.bad place
   many-stops i n s at {xs} {k} {place} e h d =
       let q : n ≡ i + suc (n - suc i) = omega arith in
       rw q (many-add i (suc (n - suc i)) s at e ∙ ap (joined xs) (many-fails p s k (n - suc i) d) ∙ joined-bad xs place)
 
 -- a counted list: its length in a byte, and behind that its items
-pub counted-ok : {A : Type 0} (most : ℕ) (p : Parser A) (s : List ℕ) (at : ℕ) {xs : List A} {k : ℕ} → counted most p s at ≡ Parsed.ok xs k → Byte 0 most s at (length xs) (at + 1) × (many p (length xs) s (at + 1) ≡ Parsed.ok xs k)
+pub counted-ok : {A : Type 0} (most : ℕ) (p : Parser A) (s : List ℕ) (at : ℕ) {xs : List A} {k : ℕ} → counted most p s at ≡ Parsed.ok xs k
+    → Byte 0 most s at (length xs) (at + 1) × (many p (length xs) s (at + 1) ≡ Parsed.ok xs k)
 unfolding counted
 counted-ok most p s at e =
     let b = next-ok (byte 0 most s at) _ e in

@@ -43,12 +43,14 @@ more-onward n (some r) p k = refl
 
 pub run-append : (P : Program) (p : Pool) (cs ds : List Choice) → run P p (cs ++ ds) ≡ andRun (run P p cs) (λ p′. run P p′ ds)
 unfolding run goOn
-run-append P p [] ds = ap (λ (m : ℕ). record { made = m; refusal = run P p ds .refusal; pool = run P p ds .pool }) (sym (zero-add (run P p ds .made)))
+run-append P p [] ds =
+    ap (λ (m : ℕ). record { made = m; refusal = run P p ds .refusal; pool = run P p ds .pool }) (sym (zero-add (run P p ds .made)))
 run-append P p (c ∷ cs) ds = go (choice P p (c .kind) (c .thread)) (λ p′. run-append P p′ cs ds)
   where
     go : (r : Result) → ((p′ : Pool) → run P p′ (cs ++ ds) ≡ andRun (run P p′ cs) (λ q. run P q ds))
         → goOn p r (λ p′. run P p′ (cs ++ ds)) ≡ andRun (goOn p r (λ p′. run P p′ cs)) (λ q. run P q ds)
-    go (Result.made rule p′) k = ap oneMore (k p′) ∙ more-onward (run P p′ cs .made) (run P p′ cs .refusal) (run P p′ cs .pool) (λ q. run P q ds)
+    go (Result.made rule p′) k =
+        ap oneMore (k p′) ∙ more-onward (run P p′ cs .made) (run P p′ cs .refusal) (run P p′ cs .pool) (λ q. run P q ds)
     go (Result.refused n) k = refl
 
 -- the same on words: a report, and where nothing was refused the report of what comes behind it
@@ -75,7 +77,8 @@ schedule-append s ws cs ds = go (lent s ws) refl
     go (Answer.refused r) e = refl
     go (Answer.given l) e =
         let g = lent-given s ws l e in
-        let kept : isPool (l .table) (run (l .table) (l .pool) cs .pool) ≡ true = run-kept (l .table) (read-limits s (l .table) (g .reads)) (l .pool) cs (g .valid) in
+        let kept : isPool (l .table) (run (l .table) (l .pool) cs .pool) ≡ true =
+        run-kept (l .table) (read-limits s (l .table) (g .reads)) (l .pool) cs (g .valid) in
         let lends = lent-words s (l .table) (run (l .table) (l .pool) cs .pool) (g .reads) kept in
         ap reported (run-append (l .table) (l .pool) cs ds) ∙
         reported-onward (run (l .table) (l .pool) cs .made) (run (l .table) (l .pool) cs .refusal) (run (l .table) (l .pool) cs .pool)

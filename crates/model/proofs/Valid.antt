@@ -13,9 +13,11 @@ use Rattle.model.specs.Lists.{all, Each}
 use Rattle.model.specs.Values.{same}
 use Rattle.model.specs.Sets.{has}
 use Rattle.model.specs.Syntax.{Block, Function, Program}
-use Rattle.model.specs.Pool.{Frame, Thread, Pool, temporaries, mostCalls, mostFrames, mostThreads, frames, functionOf, blank, inBlock, inFunction, isFrame, isOlder, settled, ordered, isThread, trees, isPool}
+use Rattle.model.specs.Pool.{Frame, Thread, Pool, temporaries, mostCalls, mostFrames, mostThreads, frames, restacked, functionOf}
+use Rattle.model.specs.Pool.{blank, inBlock, inFunction, isFrame, isOlder, settled, ordered, isThread, isPool}
 use Rattle.model.specs.Valid.{Blank, Stands, IsFrame, IsOlder, Settled, Ordered, IsThread, IsPool}
-use Rattle.model.proofs.Facts.{true-false, and-left, and-right, both-and, left-or, right-or, or-right, each-map, all-each, each-all, ltb-true, leb-true, eqb-true, lt-ltb, le-leb, eq-eqb, ne-eqb}
+use Rattle.model.proofs.Facts.{true-false, and-left, and-right, both-and, left-or, right-or, or-right, each-map, all-each, each-all}
+use Rattle.model.proofs.Facts.{ltb-true, leb-true, eqb-true, lt-ltb, le-leb, eq-eqb, ne-eqb}
 
 -- equality of values as a test
 pub same-true : (v w : ℤ) → same v w ≡ true → v ≡ w
@@ -194,3 +196,24 @@ module _ (P : Program) where
       let a : leb (length p) mostThreads ≡ true = le-leb (length p) mostThreads (h .few) in
       let b : all (isThread P) p ≡ true = each-all (isThread P) p (each-map facts-thread p (h .each)) in
       rw (a, b) (h .tree)
+
+-- the frames of a thread, newest first, as facts
+abbrev pub Upright : Program → List Frame → Type 0
+Upright P [] = ⊥
+Upright P (k ∷ K) = IsFrame P k × Each (IsOlder P) K × Ordered (k ∷ K)
+
+pub restacked-frames : (t : Thread) (K : List Frame) → 0 < length K → frames (restacked t K) ≡ K
+restacked-frames t [] h = absurd (omega arith)
+restacked-frames t (k ∷ K) h = refl
+
+module _ (P : Program) where
+  pub upright-order : (K : List Frame) → Upright P K → Ordered K
+  upright-order [] h = absurd h
+  upright-order (k ∷ K) h = h .2
+
+  pub thread-upright : {t : Thread} → IsThread P t → Upright P (frames t)
+  thread-upright h = (h .newest, h .older, h .order)
+
+  pub upright-thread : (t : Thread) (K : List Frame) → length K ≤ mostFrames → Upright P K → IsThread P (restacked t K)
+  upright-thread t [] few h = absurd h
+  upright-thread t (k ∷ K) few h = record { few = few; newest = h .0; older = h .1; order = h .2 }

@@ -1,6 +1,6 @@
 -- The pool's words: how many they are, that reading them back gives the pool again, and what a lent pool is.
-use Prim.Native.Nat.{ℕ, zero, suc, _*_, _-_, _≤_, zero-le, min}
-use mathlib.Core.Path.{_≡_, refl, sym, ap, subst}
+use Prim.Native.Nat.{ℕ, zero, suc, _+_, _*_, _-_, _≤_, zero-le, min}
+use mathlib.Core.Path.{_≡_, refl, sym, ap, subst, _∙_}
 use mathlib.Core.Bool.{Bool, true, false, cond}
 use mathlib.Core.Option.{some}
 use mathlib.Core.List.{List, [], _∷_, _++_, map, reverse, reverse-cons, reverse-reverse, append-assoc}
@@ -8,18 +8,23 @@ use native.Mathlib.Nat.{min-eq-left, zero-mul, suc-mul, mul-le-mul-right}
 use native.Mathlib.Omega.{arith}
 use lib.Dec.{eqb, ltb, lit≤}
 use lib.IntN.{ℤ, pos}
-use lib.ListN.{length, getD, getElem?, take, drop, replicate, length-append, length-map, length-reverse, length-replicate}
-use lib.Seq.{take-at, drop-at, take-all}
+use lib.ListN.{length, getD, getElem?, set, take, drop, replicate, length-append, length-map, length-reverse, length-replicate}
+use lib.ListN.{List·getD-append}
+use lib.Seq.{take-at, drop-at, take-all, set-getD}
 use Rattle.model.specs.Numbers as No
 use Rattle.model.specs.Lists.{Each, pad, concat}
 use Rattle.model.specs.Values.{same, number}
 use Rattle.model.specs.Sets.{has, below}
 use Rattle.model.specs.Syntax.{Function, Program}
-use Rattle.model.specs.Pool.{Frame, Thread, Pool, temporaries, mostCalls, mostFrames, mostThreads, frameWords, threadWords, poolWords, frames, begin, wordsOfFrame, wordsOfThread, wordsOf, runs, wordAt, countAt, frameOf, stack, threadOf, poolOf, sameWords, functionOf, children, trees, isPool, arePool, started}
+use Rattle.model.specs.Pool.{Frame, Thread, Pool, temporaries, mostCalls, mostFrames, mostThreads, frameWords, threadWords, poolWords}
+use Rattle.model.specs.Pool.{frameCountAt, framesAt, threadCountAt, threadsAt, frames, born, restacked, begin, wordsOfFrame}
+use Rattle.model.specs.Pool.{threadHead, wordsOfThread, wordsOf, runs, wordAt, countAt, frameOf, threadOf, poolOf, sameWords}
+use Rattle.model.specs.Pool.{threadStart, functionOf, children, trees, isPool, arePool, started}
 use Rattle.model.specs.Answers.{Refusal, Answer, with}
 use Rattle.model.specs.Limits.{InFunction, Limits}
 use Rattle.model.specs.Calls.{read, Lent, measured, valid, lent}
-use Rattle.model.proofs.Facts.{refused-given, ltb-true, ltb-false, below-at, each-at, eqb-true, eq-eqb, true-false, and-left, and-right, both-and, each-map, each-append}
+use Rattle.model.proofs.Facts.{refused-given, ltb-true, ltb-false, below-at, each-at, eqb-true, eq-eqb, true-false, and-left}
+use Rattle.model.proofs.Facts.{and-right, both-and, each-map, each-append}
 use Rattle.model.proofs.Members.{has-below, below-lt}
 use Rattle.model.specs.Valid.{Blank, IsFrame, IsThread, IsPool, FrameFits, ThreadFits, PoolFits}
 use Rattle.model.proofs.Valid.{pool-facts, facts-pool, same-true, same-refl}
@@ -61,7 +66,8 @@ pub runs-concat : (size : ℕ) (xss : List (List ℤ)) (rest : List ℤ) → Lon
 unfolding runs concat
 runs-concat size [] rest h = refl
 runs-concat size (xs ∷ xss) rest h =
-    rw (append-assoc, take-at xs (concat xss ++ rest) size (h .0), drop-at xs (concat xss ++ rest) size (h .0), runs-concat size xss rest (h .1))
+    let r : List ℤ = concat xss ++ rest in
+    rw (append-assoc, take-at xs r size (h .0), drop-at xs r size (h .0), runs-concat size xss rest (h .1))
 
 number-pos : (xs : List ℕ) → map number (map pos xs) ≡ xs
 number-pos [] = refl
@@ -71,7 +77,7 @@ take-padded : {A : Type 0} (n : ℕ) (d : A) (xs ys : List A) (m : ℕ) → leng
 unfolding pad
 take-padded n d xs ys m h = rw append-assoc (take-at xs (replicate (n - length xs) d ++ ys) m h)
 
--- 26 words, and the frame again
+-- a frame's words: how many, and the frame again
 calls-length : {k : Frame} → FrameFits k → length (pad mostCalls (pos 0) (map pos (k .calls))) ≡ mostCalls
 calls-length {k} h = length-pad mostCalls (pos 0) (map pos (k .calls)) (rw length-map (h .calls))
 
@@ -99,16 +105,44 @@ frame-back {k} h =
 
     calls : map number (take (min (length (k .calls)) mostCalls) (slots ++ k .values)) ≡ k .calls
     calls =
-        rw (min-eq-left (h .calls), take-padded mostCalls (pos 0) (map pos (k .calls)) (k .values) (length (k .calls)) (length-map (k .calls) pos))
+        let n : ℕ = length (k .calls) in
+        rw (min-eq-left (h .calls), take-padded mostCalls (pos 0) (map pos (k .calls)) (k .values) n (length-map (k .calls) pos))
         (number-pos (k .calls))
 
     values : take temporaries (drop mostCalls (slots ++ k .values)) ≡ k .values
     values = rw (drop-at slots (k .values) mostCalls (calls-length h)) (take-all temporaries (k .values) (omega (arith, h .values)))
 
--- a count, that many runs of one size, and 0 behind them: a thread's words, and a pool's
+-- the law of what stands before a thread's frames: how many words, the number of frames among them, and what another stack changes
+module _ (t : Thread) where
+  pub head-length : length (threadHead t) ≡ framesAt
+  unfolding threadHead
+  head-length = refl
+
+  head-count : getD (threadHead t) frameCountAt (pos 0) ≡ pos (length (frames t))
+  unfolding threadHead
+  head-count = refl
+
+  pub head-restacked : (k : Frame) (K : List Frame)
+      → threadHead (restacked t (k ∷ K)) ≡ set (threadHead t) frameCountAt (pos (suc (length K)))
+  unfolding threadHead
+  head-restacked k K = refl
+
+  -- with as many frames it is the same
+  pub head-kept : (K : List Frame) → length K ≡ length (frames t) → threadHead (restacked t K) ≡ threadHead t
+  head-kept [] e = refl
+  head-kept (k ∷ K) e =
+      head-restacked k K
+      ∙ ap (set (threadHead t) frameCountAt) (ap pos e ∙ sym head-count)
+      ∙ set-getD (threadHead t) frameCountAt (pos 0)
+
+  pub thread-count : getD (wordsOfThread t) frameCountAt (pos 0) ≡ pos (length (frames t))
+  unfolding wordsOfThread
+  thread-count = List·getD-append (threadHead t) _ (pos 0) frameCountAt (omega (arith, head-length)) ∙ head-count
+
+-- a head, at most so many runs of one size, and 0 behind them: a thread's words, and a pool's
 module _ {A : Type 0} (most size : ℕ) (write : A → List ℤ) (back : List ℤ → A) where
-  counted : ℕ → List A → List ℤ
-  counted n xs = pos n ∷ pad (most * size) (pos 0) (concat (map write xs))
+  counted : List ℤ → List A → List ℤ
+  counted head xs = head ++ pad (most * size) (pos 0) (concat (map write xs))
 
   Written : A → Type 0
   Written x = (length (write x) ≡ size) × (back (write x) ≡ x)
@@ -123,39 +157,51 @@ module _ {A : Type 0} (most size : ℕ) (write : A → List ℤ) (back : List �
   backs [] h = refl
   backs (x ∷ xs) h = rw (h .0 .1, backs xs (h .1))
 
-  counted-length : (n : ℕ) (xs : List A) → length xs ≤ most → Each Written xs → length (counted n xs) ≡ suc (most * size)
-  unfolding counted
-  counted-length n xs few h = ap suc (length-pad (most * size) (pos 0) (concat (map write xs)) fits)
-    where
-      fits : length (concat (map write xs)) ≤ most * size
-      fits = rw (length-concat size (map write xs) (long xs h), length-map) (mul-le-mul-right size few)
+  module _ (head : List ℤ) (before : ℕ) (e : length head ≡ before) (xs : List A) (few : length xs ≤ most) (h : Each Written xs) where
+    counted-length : length (counted head xs) ≡ before + most * size
+    unfolding counted
+    counted-length = length-append head _ ∙ rw (e, length-pad (most * size) (pos 0) (concat (map write xs)) fits)
+      where
+        fits : length (concat (map write xs)) ≤ most * size
+        fits = rw (length-concat size (map write xs) (long xs h), length-map) (mul-le-mul-right size few)
 
-  counted-back : (n : ℕ) (xs : List A) → length xs ≡ n → n ≤ most → Each Written xs
-      → map back (runs size (countAt most (counted n xs) 0) (drop 1 (counted n xs))) ≡ xs
-  unfolding counted countAt wordAt pad
-  counted-back n xs e few h =
-      rw (min-eq-left few, ← e, ← length-map xs write, runs-concat size (map write xs) _ (long xs h)) (backs xs h)
+    counted-back : (at : ℕ) → getD (counted head xs) at (pos 0) ≡ pos (length xs)
+        → map back (runs size (countAt most (counted head xs) at) (drop before (counted head xs))) ≡ xs
+    unfolding counted countAt wordAt pad
+    counted-back at c =
+        rw (c, min-eq-left few, drop-at head _ before e, ← length-map xs write, runs-concat size (map write xs) _ (long xs h)) (backs xs h)
 
--- 209 words, and the thread again
+-- a thread's words: how many, and the thread again
 frames-written : (K : List Frame) → Each FrameFits K → Each (Written mostFrames frameWords wordsOfFrame frameOf) K
 unfolding Written
 frames-written K h = each-map (λ k f. (frame-length f, frame-back f)) K h
 
 module _ {t : Thread} (h : ThreadFits t) where
+  thread-few : length (reverse (frames t)) ≤ mostFrames
+  thread-few = rw length-reverse (h .few)
+
   thread-written : Each (Written mostFrames frameWords wordsOfFrame frameOf) (reverse (frames t))
   thread-written = frames-written (reverse (frames t)) (each-reverse FrameFits (frames t) (h .each))
 
   pub thread-length : length (wordsOfThread t) ≡ threadWords
   unfolding wordsOfThread counted
   thread-length =
-      counted-length mostFrames frameWords wordsOfFrame frameOf (length (frames t)) (reverse (frames t)) (rw length-reverse (h .few)) thread-written
+      counted-length mostFrames frameWords wordsOfFrame frameOf (threadHead t) framesAt (head-length t)
+      (reverse (frames t)) thread-few thread-written
 
   pub thread-back : threadOf (wordsOfThread t) ≡ t
-  unfolding wordsOfThread threadOf counted stack
+  unfolding wordsOfThread threadHead threadOf wordAt counted
   thread-back =
-      rw (counted-back mostFrames frameWords wordsOfFrame frameOf (length (frames t)) (reverse (frames t)) (length-reverse (frames t)) (h .few) thread-written, reverse-reverse (frames t))
+      let c : getD (wordsOfThread t) frameCountAt (pos 0) ≡ pos (length (reverse (frames t))) =
+      thread-count t ∙ ap pos (sym (length-reverse (frames t)))
+      in
+      let b =
+      counted-back mostFrames frameWords wordsOfFrame frameOf (threadHead t) framesAt (head-length t) (reverse (frames t)) thread-few
+      thread-written frameCountAt c
+      in
+      rw (b, reverse-reverse (frames t))
 
--- 1,673 words, and the pool again
+-- a pool's words: how many, and the pool again
 module _ {p : Pool} (h : PoolFits p) where
   threads-written : Each (Written mostThreads threadWords wordsOfThread threadOf) p
   unfolding Written
@@ -163,11 +209,14 @@ module _ {p : Pool} (h : PoolFits p) where
 
   pub pool-length : length (wordsOf p) ≡ poolWords
   unfolding wordsOf counted
-  pool-length = counted-length mostThreads threadWords wordsOfThread threadOf (length p) p (h .few) threads-written
+  pool-length =
+      counted-length mostThreads threadWords wordsOfThread threadOf (pos (length p) ∷ []) threadsAt refl p (h .few) threads-written
 
   pub pool-read : poolOf (wordsOf p) ≡ p
   unfolding wordsOf poolOf counted
-  pool-read = counted-back mostThreads threadWords wordsOfThread threadOf (length p) p refl (h .few) threads-written
+  pool-read =
+      counted-back mostThreads threadWords wordsOfThread threadOf (pos (length p) ∷ []) threadsAt refl p
+      (h .few) threads-written threadCountAt refl
 
 pub words-length : (P : Program) (p : Pool) → isPool P p ≡ true → length (wordsOf p) ≡ poolWords
 words-length P p e = pool-length (pool-fits (pool-facts P p e))
@@ -279,10 +328,31 @@ begin-frame P L g {G} v̄ e few =
       blanks = begin-blank v̄;
     }
 
-pub begin-thread : (P : Program) (k : Frame) → IsFrame P k → IsThread P (record { newest = k; older = [] })
+pub begin-thread : (P : Program) (k : Frame) → IsFrame P k → IsThread P (born k)
 begin-thread P k h = record { few = lit≤ tt; newest = h; older = tt; order = (λ _. tt, tt) }
 
--- the pool at the start
+-- the empty frame is of the layout's sizes, and so is a new thread of such a frame
+pub empty-fits : FrameFits (begin 0 [])
+unfolding begin pad
+empty-fits = record { calls = zero-le; values = refl }
+
+pub born-fits : {k : Frame} → FrameFits k → ThreadFits (born k)
+born-fits f = record { few = lit≤ tt; each = (f, tt) }
+
+-- the empty frame's words are 0; those of a new thread of it are 0 but for its count, and so are those of the pool at the start
+pub empty-words : wordsOfFrame (begin 0 []) ≡ replicate frameWords (pos 0)
+unfolding wordsOfFrame begin below pad
+empty-words = refl
+
+pub born-words : wordsOfThread (born (begin 0 [])) ≡ set (replicate threadWords (pos 0)) frameCountAt (pos 1)
+unfolding wordsOfThread threadHead wordsOfFrame begin below concat pad
+born-words = refl
+
+pub started-words : wordsOf started ≡ set (set (replicate poolWords (pos 0)) threadCountAt (pos 1)) (threadStart 0 + frameCountAt) (pos 1)
+unfolding wordsOf wordsOfThread threadHead wordsOfFrame started begin below concat pad
+started-words = refl
+
+-- the pool at the start is valid
 pub started-pool : (P : Program) → Limits P → isPool P started ≡ true
 unfolding started begin trees children
 started-pool P L =

@@ -1,5 +1,5 @@
 -- Figure 2: frames, threads and the pool; the pool's words, and which words are a pool of a table (13).
-use Prim.Native.Nat.{ℕ, zero, suc, _+_, _*_, _^_, _-_, min}
+use Prim.Native.Nat.{ℕ, zero, suc, _+_, _*_, _^_, min}
 use mathlib.Core.Bool.{Bool, true, false, _&&_, _||_}
 use mathlib.Core.Option.{Option, none, some}
 use mathlib.Core.List.{List, [], _∷_, _++_, map, reverse}
@@ -24,17 +24,60 @@ mostFrames = 8
 abbrev pub mostThreads : ℕ
 mostThreads = 8
 
--- function, block, statements done, bound set, open calls, promoted calls; the calls; the values: 26
+-- a frame's 26 words: six numbers, of which that at `openedAt` is the number of open calls; the calls; the values
+abbrev pub functionAt : ℕ
+functionAt = 0
+
+abbrev pub blockAt : ℕ
+blockAt = 1
+
+abbrev pub doneAt : ℕ
+doneAt = 2
+
+abbrev pub boundAt : ℕ
+boundAt = 3
+
+abbrev pub openedAt : ℕ
+openedAt = 4
+
+abbrev pub promotedAt : ℕ
+promotedAt = 5
+
+abbrev pub callsAt : ℕ
+callsAt = 6
+
+abbrev pub valuesAt : ℕ
+valuesAt = callsAt + mostCalls
+
 abbrev pub frameWords : ℕ
-frameWords = 6 + mostCalls + temporaries
+frameWords = valuesAt + temporaries
 
--- the number of frames; the frames: 209
+-- a thread's 209 words: the number of its frames; the frames
+abbrev pub frameCountAt : ℕ
+frameCountAt = 0
+
+abbrev pub framesAt : ℕ
+framesAt = 1
+
 abbrev pub threadWords : ℕ
-threadWords = 1 + mostFrames * frameWords
+threadWords = framesAt + mostFrames * frameWords
 
--- the number of threads; the threads: 1,673
+-- a pool's 1,673 words: the number of its threads; the threads
+abbrev pub threadCountAt : ℕ
+threadCountAt = 0
+
+abbrev pub threadsAt : ℕ
+threadsAt = 1
+
 abbrev pub poolWords : ℕ
-poolWords = 1 + mostThreads * threadWords
+poolWords = threadsAt + mostThreads * threadWords
+
+-- thread i begins here, and its frame j, oldest first
+abbrev pub threadStart : ℕ → ℕ
+threadStart i = threadsAt + threadWords * i
+
+abbrev pub startOf : ℕ → ℕ → ℕ
+startOf i j = threadStart i + framesAt + frameWords * j
 
 -- k ::= ⟨f, ρ, X, b⟩: the function; the block, which in an older frame is the one to return to; the statements done; the
 -- spawn deque ρ, oldest first, of which the first are promoted; X as the bound set and sixteen values
@@ -59,6 +102,15 @@ Pool = List Thread
 abbrev pub frames : Thread → List Frame
 frames t = t .newest ∷ t .older
 
+-- a new thread, of one frame
+abbrev pub born : Frame → Thread
+born k = record { newest = k; older = [] }
+
+-- the thread t with these frames, newest first, and all else of it kept. Where there are none it stays as it is
+abbrev pub restacked : Thread → List Frame → Thread
+restacked t [] = t
+restacked t (k ∷ K) = record { newest = k; older = K }
+
 -- a function's first frame: the entry, with parameter k as temporary k
 unfoldable pub begin : ℕ → List ℤ → Frame
 begin g v̄ =
@@ -78,10 +130,12 @@ wordsOfFrame k =
     pos (k .function) ∷ pos (k .block) ∷ pos (k .done) ∷ pos (k .bound) ∷ pos (length (k .calls)) ∷ pos (k .promoted) ∷
     (pad mostCalls (pos 0) (map pos (k .calls)) ++ k .values)
 
+-- what stands before a thread's frames
+unfoldable pub threadHead : Thread → List ℤ
+threadHead t = pos (length (frames t)) ∷ []
+
 unfoldable pub wordsOfThread : Thread → List ℤ
-wordsOfThread t =
-    pos (length (frames t)) ∷
-    pad (mostFrames * frameWords) (pos 0) (concat (map wordsOfFrame (reverse (frames t))))
+wordsOfThread t = threadHead t ++ pad (mostFrames * frameWords) (pos 0) (concat (map wordsOfFrame (reverse (frames t))))
 
 unfoldable pub wordsOf : Pool → List ℤ
 wordsOf p = pos (length p) ∷ pad (mostThreads * threadWords) (pos 0) (concat (map wordsOfThread p))
@@ -102,24 +156,22 @@ countAt most ws i = min (wordAt ws i) most
 unfoldable pub frameOf : List ℤ → Frame
 frameOf ws =
     record {
-      function = wordAt ws 0;
-      block = wordAt ws 1;
-      done = wordAt ws 2;
-      bound = wordAt ws 3;
-      calls = map number (take (countAt mostCalls ws 4) (drop 6 ws));
-      promoted = wordAt ws 5;
-      values = take temporaries (drop (6 + mostCalls) ws);
+      function = wordAt ws functionAt;
+      block = wordAt ws blockAt;
+      done = wordAt ws doneAt;
+      bound = wordAt ws boundAt;
+      calls = map number (take (countAt mostCalls ws openedAt) (drop callsAt ws));
+      promoted = wordAt ws promotedAt;
+      values = take temporaries (drop valuesAt ws);
     }
 
-unfoldable pub stack : List Frame → Thread
-stack [] = record { newest = begin 0 []; older = [] }
-stack (k ∷ K) = record { newest = k; older = K }
-
 unfoldable pub threadOf : List ℤ → Thread
-threadOf ws = stack (reverse (map frameOf (runs frameWords (countAt mostFrames ws 0) (drop 1 ws))))
+threadOf ws =
+    restacked (born (begin 0 []))
+    (reverse (map frameOf (runs frameWords (countAt mostFrames ws frameCountAt) (drop framesAt ws))))
 
 unfoldable pub poolOf : List ℤ → Pool
-poolOf ws = map threadOf (runs threadWords (countAt mostThreads ws 0) (drop 1 ws))
+poolOf ws = map threadOf (runs threadWords (countAt mostThreads ws threadCountAt) (drop threadsAt ws))
 
 unfoldable pub sameWords : List ℤ → List ℤ → Bool
 sameWords [] [] = true
@@ -198,4 +250,4 @@ arePool P ws = sameWords (wordsOf (poolOf ws)) ws && isPool P (poolOf ws)
 
 -- the pool at the start: one thread, with one frame at main's entry
 unfoldable pub started : Pool
-started = record { newest = begin 0 []; older = [] } ∷ []
+started = born (begin 0 []) ∷ []

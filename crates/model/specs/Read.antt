@@ -89,10 +89,13 @@ variable = do
   x ← temporary
   pure (Atom.temporary x)
 
+abbrev pub atoms : List (Parser Atom)
+atoms = value ∷ variable ∷ []
+
 unfoldable pub atom : Parser Atom
 atom = do
   k ← byte 0 1
-  pick (value ∷ variable ∷ []) k
+  pick atoms k
 
 -- m, -m, m + n, m < n: an expression of one atom, and of two
 unfoldable pub unary : (Atom → Expression) → Parser Expression
@@ -106,10 +109,13 @@ binary e = do
   n ← atom
   pure (e m n)
 
+abbrev pub expressions : List (Parser Expression)
+expressions = unary Expression.atom ∷ unary Expression.minus ∷ binary Expression.plus ∷ binary Expression.less ∷ []
+
 unfoldable pub expression : Parser Expression
 expression = do
   k ← byte 0 3
-  pick (unary Expression.atom ∷ unary Expression.minus ∷ binary Expression.plus ∷ binary Expression.less ∷ []) k
+  pick expressions k
 
 unfoldable pub statement : Parser Statement
 statement = do
@@ -154,10 +160,13 @@ spoin = do
   c ← name
   pure (Transfer.spoin b c)
 
+abbrev pub transfers : List (Parser Transfer)
+transfers = goto ∷ if ∷ call ∷ return ∷ spork ∷ spoin ∷ []
+
 unfoldable pub transfer : Parser Transfer
 transfer = do
   k ← byte 0 5
-  pick (goto ∷ if ∷ call ∷ return ∷ spork ∷ spoin ∷ []) k
+  pick transfers k
 
 unfoldable pub head : Parser Head
 head = do
@@ -166,12 +175,16 @@ head = do
   ρ ← counted 4 name
   pure (record { parameters = x̄; scope = Γ; nesting = ρ })
 
-unfoldable pub block : Parser Block
-block = do
-  h ← head
+-- what stands above a block's head takes the head's parser: a version of the table is an instance
+unfoldable pub blockBy : Parser Head → Parser Block
+blockBy p = do
+  h ← p
   c ← counted 32 statement
   t ← transfer
   pure (record { head = h; code = c; transfer = t })
+
+abbrev pub block : Parser Block
+block = blockBy head
 
 unfoldable pub spawnCall : Parser SpawnCall
 spawnCall = do
@@ -179,35 +192,50 @@ spawnCall = do
   x̄ ← arguments
   pure (record { function = g; arguments = x̄ })
 
-unfoldable pub function : Parser Function
-function = do
+unfoldable pub functionBy : Parser Head → Parser Function
+functionBy p = do
   n ← byte 0 8
   r ← byte 0 4
   b ← byte 1 32
   c ← byte 0 8
   π̄ ← many spawnCall c
-  B̄ ← many block b
+  B̄ ← many (blockBy p) b
   pure (record { signature = record { parameters = n; returns = r }; spawns = π̄; blocks = B̄ })
 
-unfoldable pub program : Parser Program
-program = do
+abbrev pub function : Parser Function
+function = functionBy head
+
+unfoldable pub programBy : Parser Head → Parser Program
+programBy p = do
   n ← byte 1 16
-  many function n
+  many (functionBy p) n
 
--- the header: the total length, and the version; the functions begin at offset 5, with their number
+abbrev pub program : Parser Program
+program = programBy head
+
+-- the header: the total length, and the version; the functions begin at offset 5, with their number. Four numbers that are no
+-- bytes count as 0, which is no table's length
+unfoldable pub orZero : Parsed ℕ → ℕ
+orZero (Parsed.ok n at) = n
+orZero (Parsed.bad place) = 0
+
 unfoldable pub lengthField : List ℕ → ℕ
-lengthField s = ((getD s 0 0 * 256 + getD s 1 0) * 256 + getD s 2 0) * 256 + getD s 3 0
+lengthField s = orZero (word s 0)
 
-unfoldable pub sized : List ℕ → Bool
-sized s = leb 6 (length s) && leb (length s) 16384 && eqb (lengthField s) (length s)
+unfoldable pub sized : List ℕ → ℕ → Bool
+sized s field = leb 6 (length s) && leb (length s) 16384 && eqb field (length s)
 
 -- a program that ends where the table ends: the first byte left over is bad
 unfoldable pub whole : List ℕ → Parsed Program → Answer Program
 whole s (Parsed.bad place) = Answer.refused (Refusal.byte place)
 whole s (Parsed.ok P at) = cond (eqb at (length s)) (Answer.given P) (Answer.refused (Refusal.byte at))
 
-unfoldable pub read : List ℕ → Answer Program
-read s =
-    cond (sized s)
-    (cond (eqb (getD s 4 0) 1) (whole s (program s 5)) (Answer.refused (Refusal.plain No.version)))
+-- 1, then 2, then 3: by the length field, the version, and the functions from an offset on
+unfoldable pub readFrom : List ℕ → ℕ → ℕ → ℕ → Answer Program
+readFrom s at field version =
+    cond (sized s field)
+    (cond (eqb version 1) (whole s (program s at)) (Answer.refused (Refusal.plain No.version)))
     (Answer.refused (Refusal.plain No.size))
+
+unfoldable pub read : List ℕ → Answer Program
+read s = readFrom s 5 (lengthField s) (getD s 4 0)

@@ -10,7 +10,7 @@ use Rattle.model.specs.Numbers as No
 use Rattle.model.specs.Lists.{unsnoc, equal}
 use Rattle.model.specs.Values.{same}
 use Rattle.model.specs.Syntax.{Expression, Statement, Transfer, Block, Program}
-use Rattle.model.specs.Pool.{Frame, Thread, Pool, mostCalls, mostFrames, mostThreads, frames, functionOf, blockOf}
+use Rattle.model.specs.Pool.{Frame, Thread, Pool, mostCalls, mostFrames, mostThreads, frames, born, restacked, functionOf, blockOf}
 use Rattle.model.specs.Frames.{_>>=_, when, lookAll, eval, bind, goTo, deque, enter, callee}
 
 -- what the newest frame does next: it refuses; it goes on by a rule; it calls, and both frames are given; it returns
@@ -120,61 +120,62 @@ pub data Result : Type 0 where
   made : ℕ → List Thread → Result
   refused : ℕ → Result
 
--- the thread with a new newest frame, where the rule's needs are met
-unfoldable pub onTop : ℕ → List Frame → List Thread → Option Frame → Result
-onTop rule K ts none = Result.refused No.stuck
-onTop rule K ts (some k) = Result.made rule (record { newest = k; older = K } ∷ ts)
+-- the thread t with the frame k over K, where the rule's needs are met
+unfoldable pub onTop : ℕ → Thread → List Frame → List Thread → Option Frame → Result
+onTop rule t K ts none = Result.refused No.stuck
+onTop rule t K ts (some k) = Result.made rule (restacked t (k ∷ K) ∷ ts)
 
 -- return: K·⟨f, ρ, X, b⟩·⟨g, ∅, Y⟩ ◇ return(ȳ) ↦ K·⟨f, ρ, X[x̄ ↪ Y(ȳ)]⟩ ◇ C at b(x̄); with no caller the thread is ended
-unfoldable pub popping : Program → List Frame → List Thread → List ℤ → Result
-popping P [] ts v̄ = Result.refused No.ended
-popping P (k ∷ K) ts v̄ = onTop No.return K ts (enter P k (k .block) v̄)
+unfoldable pub popping : Program → Thread → List Frame → List Thread → List ℤ → Result
+popping P t [] ts v̄ = Result.refused No.ended
+popping P t (k ∷ K) ts v̄ = onTop No.return t K ts (enter P k (k .block) v̄)
 
 -- prom: K·⟨f, π̄·π : ∅, X⟩ ◇ spoin(b, c) ∧ ⟨g, ∅, Y⟩ ◇ return(ȳ) ↦ K·⟨f, π̄ : ∅, X[x̄ ↪ Y(ȳ)]⟩ ◇ C at c(x̄). The newest child
 -- stands directly behind its parent, and goes
-unfoldable pub joining : Program → Frame → ℕ → List Frame → List Thread → Option (List ℤ) → Result
-joining P k c K ts none = Result.refused No.waits
-joining P k c K ts (some v̄) = onTop No.prom K ts (enter P k c v̄)
+unfoldable pub joining : Program → Thread → Frame → ℕ → List Thread → Option (List ℤ) → Result
+joining P t k c ts none = Result.refused No.waits
+joining P t k c ts (some v̄) = onTop No.prom t (t .older) ts (enter P k c v̄)
 
-unfoldable pub joins : Program → Frame → ℕ → List Frame → List Thread → Result
-joins P k c K [] = Result.refused No.waits
-joins P k c K (t ∷ ts) = joining P k c K ts (ended P t)
+unfoldable pub joins : Program → Thread → Frame → ℕ → List Thread → Result
+joins P t k c [] = Result.refused No.waits
+joins P t k c (u ∷ ts) = joining P t k c ts (ended P u)
 
 -- an ordinary step of a thread: rules 1 to 9
-unfoldable pub apply : Program → List Frame → List Thread → Act → Result
-apply P K ts (Act.refuse n) = Result.refused n
-apply P K ts (Act.stay rule k) = Result.made rule (record { newest = k; older = K } ∷ ts)
-apply P K ts (Act.push k l) =
-    cond (ltb (suc (length K)) mostFrames)
-    (Result.made No.call (record { newest = l; older = k ∷ K } ∷ ts))
+unfoldable pub apply : Program → Thread → List Thread → Act → Result
+apply P t ts (Act.refuse n) = Result.refused n
+apply P t ts (Act.stay rule k) = Result.made rule (restacked t (k ∷ t .older) ∷ ts)
+apply P t ts (Act.push k l) =
+    cond (ltb (length (frames t)) mostFrames)
+    (Result.made No.call (restacked t (l ∷ k ∷ t .older) ∷ ts))
     (Result.refused No.frames)
-apply P K ts (Act.pop v̄) = popping P K ts v̄
-apply P K ts (Act.join k c) = joins P k c K ts
+apply P t ts (Act.pop v̄) = popping P t (t .older) ts v̄
+apply P t ts (Act.join k c) = joins P t k c ts
 
 unfoldable pub step : Program → Thread → List Thread → Result
-step P t ts = apply P (t .older) ts (act P (t .newest))
+step P t ts = apply P t ts (act P (t .newest))
 
--- a thread's oldest unpromoted call over all frames: the frame that holds it, its number, and the thread with it promoted
+-- the oldest unpromoted call over frames that come newest first: the frame that holds it, its number, and the frames with it
+-- promoted
 pub record Promotion : Type 0 where
   pub holder : Frame
   pub call : ℕ
-  pub parent : Thread
+  pub frames : List Frame
 
 unfoldable pub promoteIn : Frame → List Frame → Option Promotion
 promoteIn k K = do
   π ← getElem? (k .calls) (k .promoted)
-  some (record { holder = k; call = π; parent = record { newest = deque k (k .calls) (k .promoted + 1); older = K } })
+  some (record { holder = k; call = π; frames = deque k (k .calls) (k .promoted + 1) ∷ K })
 
 abbrev pub above : Frame → Promotion → Promotion
-above k p = record { holder = p .holder; call = p .call; parent = record { newest = k; older = frames (p .parent) } }
+above k p = record { holder = p .holder; call = p .call; frames = k ∷ p .frames }
 
 unfoldable pub orElse : {A : Type 0} → Option A → Option A → Option A
 orElse none o = o
 orElse (some a) o = some a
 
-unfoldable pub oldest : Frame → List Frame → Option Promotion
-oldest k [] = promoteIn k []
-oldest k (l ∷ K) = orElse (Option·map (above k) (oldest l K)) (promoteIn k (l ∷ K))
+unfoldable pub oldest : List Frame → Option Promotion
+oldest [] = none
+oldest (k ∷ K) = orElse (Option·map (above k) (oldest K)) (promoteIn k K)
 
 -- the child's first frame: the call's function, with the arguments read from the frame that holds the call
 unfoldable pub child : Program → Frame → ℕ → Option Frame
@@ -188,15 +189,15 @@ child P k π = do
 -- directly behind its parent
 unfoldable pub spawned : Thread → List Thread → Option Frame → Result
 spawned t ts none = Result.refused No.stuck
-spawned t ts (some k) = Result.made No.promote (t ∷ record { newest = k; older = [] } ∷ ts)
+spawned t ts (some k) = Result.made No.promote (t ∷ born k ∷ ts)
 
-unfoldable pub promoting : Program → Bool → List Thread → Option Promotion → Result
-promoting P room ts none = Result.refused No.promoted
-promoting P false ts (some p) = Result.refused No.threads
-promoting P true ts (some p) = spawned (p .parent) ts (child P (p .holder) (p .call))
+unfoldable pub promoting : Program → Bool → Thread → List Thread → Option Promotion → Result
+promoting P room t ts none = Result.refused No.promoted
+promoting P false t ts (some p) = Result.refused No.threads
+promoting P true t ts (some p) = spawned (restacked t (p .frames)) ts (child P (p .holder) (p .call))
 
 unfoldable pub promote : Program → Bool → Thread → List Thread → Result
-promote P room t ts = promoting P room ts (oldest (t .newest) (t .older))
+promote P room t ts = promoting P room t ts (oldest (frames t))
 
 -- cong: thread i of the pool, and the threads behind it
 unfoldable pub behind : Thread → Result → Result

@@ -1,36 +1,29 @@
--- The places of a table: where each function, block and spawn call begins, as one array of offsets. Everything is looked up by
--- number in it: function f at f, spawn call π of function f at 16 + 8 f + π, block b of function f at 144 + 32 f + b.
-use Prim.Native.Nat.{ℕ, _+_, _*_, _^_, _<_}
+-- The places of a table: where each function, block and spawn call begins, as one array of offsets in which everything is looked
+-- up by number. The head's parser is a parameter, as it is of the grammar.
+use Prim.Native.Nat.{ℕ, _+_, _^_, _<_}
 use mathlib.Core.Path.{_≡_}
 use mathlib.Core.Option.{Option, none, some}
 use mathlib.Core.Bool.{cond}
 use mathlib.Core.List.{List}
 use lib.Dec.{eqb}
 use lib.ListN.{length, getD, getElem?}
-use Rattle.model.specs.Syntax.{SpawnCall, Function, Program}
+use Rattle.model.specs.Syntax.{Head, Block, SpawnCall, Function, Program}
 use Rattle.model.specs.Read as Read
-use Rattle.model.specs.Read.{Parsed, Parser}
+use Rattle.model.specs.Read.{Parsed, Parser, blockBy, functionBy, spawnCall}
 use Rattle.model.specs.Pool.{blockIn}
 use Rattle.model.specs.Limits.{Limits}
 use Rattle.places.specs.declared.Place.{Place}
 use Rattle.places.specs.declared.Place.the-variants.{At, Nowhere}
-
--- the entry of a thing that is not there
-abbrev pub absent : ℕ
-absent = 65535
+use Rattle.places.specs.Layout as Layout
+use Rattle.places.specs.Marks.{lengthOf}
 
 -- the place that an entry stands for
 abbrev pub placeOf : ℕ → Place
-placeOf at = cond (eqb at absent) Nowhere (At at)
+placeOf at = cond (eqb at Layout.absent) Nowhere (At at)
 
-abbrev pub functionIndex : ℕ → ℕ
-functionIndex f = f
-
-abbrev pub blockIndex : ℕ → ℕ → ℕ
-blockIndex f b = 144 + 32 * f + b
-
-abbrev pub spawnIndex : ℕ → ℕ → ℕ
-spawnIndex f π = 16 + 8 * f + π
+-- the place behind a block's head, by the block's entry and that of the length
+abbrev pub codeOf : ℕ → ℕ → ℕ → Place
+codeOf at b both = cond (eqb at Layout.absent) Nowhere (At (at + lengthOf b both))
 
 -- the spawn call numbered π of a function
 unfoldable pub spawnIn : Option Function → ℕ → Option SpawnCall
@@ -44,28 +37,71 @@ pub record Reads {A : Type 0} (p : Parser A) (s : List ℕ) (at : ℕ) (a : A) :
 
 -- an entry: the offset at which p reads what is there, or absent
 abbrev pub Entry : {A : Type 0} → Parser A → List ℕ → ℕ → Option A → Type 0
-Entry p s at none = at ≡ absent
-Entry p s at (some a) = (at < absent) × Reads p s at a
+Entry p s at none = at ≡ Layout.absent
+Entry p s at (some a) = (at < Layout.absent) × Reads p s at a
 
--- the places of the program P that the table s reads to; the table is no longer than a machine's numbers go
-pub record Places (s : List ℕ) (P : Program) (places : List ℕ) : Type 0 where
+-- how many bytes the head of block b of function f takes
+abbrev pub headLength : List ℕ → ℕ → ℕ → ℕ
+headLength places f b = lengthOf b (getD places (Layout.lengthIndex f b) 0)
+
+-- a block's head reads where the block stands, and takes as many bytes
+abbrev pub Heads : Parser Head → List ℕ → ℕ → ℕ → Option Block → Type 0
+Heads p s at n none = Unit {0}
+Heads p s at n (some B) = p s at ≡ Parsed.ok (B .head) (at + n)
+
+-- the places of the program P that the table s reads to, heads by p; the table is no longer than a machine's numbers go
+pub record PlacesBy (p : Parser Head) (s : List ℕ) (P : Program) (places : List ℕ) : Type 0 where
   pub short : length s < 2 ^ 64
   pub limits : Limits P
-  pub functions : (f : ℕ) → f < 16 → Entry Read.function s (getD places (functionIndex f) 0) (getElem? P f)
-  pub blocks : (f b : ℕ) → f < 16 → b < 32 → Entry Read.block s (getD places (blockIndex f b) 0) (blockIn (getElem? P f) b)
-  pub spawns : (f π : ℕ) → f < 16 → π < 8 → Entry Read.spawnCall s (getD places (spawnIndex f π) 0) (spawnIn (getElem? P f) π)
+  pub functions : (f : ℕ) → f < Layout.functions → Entry (functionBy p) s (getD places (Layout.functionIndex f) 0) (getElem? P f)
+  pub blocks : (f b : ℕ) → f < Layout.functions → b < Layout.blocks
+      → Entry (blockBy p) s (getD places (Layout.blockIndex f b) 0) (blockIn (getElem? P f) b)
+  pub spawns : (f π : ℕ) → f < Layout.functions → π < Layout.spawns
+      → Entry spawnCall s (getD places (Layout.spawnIndex f π) 0) (spawnIn (getElem? P f) π)
+  pub heads : (f b : ℕ) → f < Layout.functions → b < Layout.blocks
+      → Heads p s (getD places (Layout.blockIndex f b) 0) (headLength places f b) (blockIn (getElem? P f) b)
+
+abbrev pub Places : List ℕ → Program → List ℕ → Type 0
+Places s P places = PlacesBy Read.head s P places
 
 -- what a lookup finds: the place at which p reads what is there, or that there is nothing
 abbrev pub Found : {A : Type 0} → Parser A → List ℕ → Place → Option A → Type 0
 Found {A} p s (At at) o = (a : A) × (o ≡ some a) × Reads p s at a
 Found p s Nowhere o = o ≡ none
 
--- the contracts of the three lookups, for every table and program that the array has the places of
+-- where a block's code begins: behind its head, wherever the block stands
+pub record CodeAt (p : Parser Head) (s : List ℕ) (e : ℕ) (B : Block) : Type 0 where
+  pub at : ℕ
+  pub block : Reads (blockBy p) s at B
+  pub head : p s at ≡ Parsed.ok (B .head) e
+
+abbrev pub FoundCode : Parser Head → List ℕ → Place → Option Block → Type 0
+FoundCode p s (At e) o = (B : Block) × (o ≡ some B) × CodeAt p s e B
+FoundCode p s Nowhere o = o ≡ none
+
+-- the contracts of the lookups, for every table and program that the array has the places of
+abbrev pub FindsFunctionBy : Parser Head → List ℕ → ℕ → Place → Type 0
+FindsFunctionBy p places f r = (s : List ℕ) (P : Program) → PlacesBy p s P places → Found (functionBy p) s r (getElem? P f)
+
+abbrev pub FindsBlockBy : Parser Head → List ℕ → ℕ → ℕ → Place → Type 0
+FindsBlockBy p places f b r =
+    (s : List ℕ) (P : Program) → PlacesBy p s P places → Found (blockBy p) s r (blockIn (getElem? P f) b)
+
+abbrev pub FindsSpawnBy : Parser Head → List ℕ → ℕ → ℕ → Place → Type 0
+FindsSpawnBy p places f π r =
+    (s : List ℕ) (P : Program) → PlacesBy p s P places → Found spawnCall s r (spawnIn (getElem? P f) π)
+
 abbrev pub FindsFunction : List ℕ → ℕ → Place → Type 0
-FindsFunction places f r = (s : List ℕ) (P : Program) → Places s P places → Found Read.function s r (getElem? P f)
+FindsFunction places f r = FindsFunctionBy Read.head places f r
 
 abbrev pub FindsBlock : List ℕ → ℕ → ℕ → Place → Type 0
-FindsBlock places f b r = (s : List ℕ) (P : Program) → Places s P places → Found Read.block s r (blockIn (getElem? P f) b)
+FindsBlock places f b r = FindsBlockBy Read.head places f b r
 
 abbrev pub FindsSpawn : List ℕ → ℕ → ℕ → Place → Type 0
-FindsSpawn places f π r = (s : List ℕ) (P : Program) → Places s P places → Found Read.spawnCall s r (spawnIn (getElem? P f) π)
+FindsSpawn places f π r = FindsSpawnBy Read.head places f π r
+
+abbrev pub FindsCodeBy : Parser Head → List ℕ → ℕ → ℕ → Place → Type 0
+FindsCodeBy p places f b r = (s : List ℕ) (P : Program) → PlacesBy p s P places → FoundCode p s r (blockIn (getElem? P f) b)
+
+abbrev pub FindsCode : List ℕ → ℕ → ℕ → Place → Type 0
+FindsCode places f b r = FindsCodeBy Read.head places f b r

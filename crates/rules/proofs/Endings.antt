@@ -1,6 +1,6 @@
 -- What a frame returns: nothing, unless its code is at a return with nothing open and its temporaries bound.
 use Prim.Native.Nat.{ℕ, zero, suc, _≤_, _<_}
-use mathlib.Core.Path.{_≡_, refl, sym, ap, subst, _∙_}
+use mathlib.Core.Path.{_≡_, refl, sym, ap, _∙_}
 use mathlib.Core.Bool.{Bool, true, false, not, cond}
 use mathlib.Core.Option.{Option, none, some}
 use mathlib.Core.List.{List, []}
@@ -11,25 +11,25 @@ use lib.ListN.{length, getElem?, take}
 use Rattle.model.specs.Numbers as No
 use Rattle.model.specs.Lists.{Snoc, unsnoc, equal}
 use Rattle.model.specs.Values.{same}
-use Rattle.model.specs.Syntax.{Expression, Statement, Transfer, Block, Program}
-use Rattle.model.specs.Pool.{Frame, functionOf, blockOf}
+use Rattle.model.specs.Syntax.{Expression, Statement, Transfer, Head, Block, Program}
+use Rattle.model.specs.Pool.{Frame, blockOf}
 use Rattle.model.specs.Frames as Frames
 use Rattle.model.specs.Frames.{when, lookAll, eval, goTo, callee}
 use Rattle.model.specs.Rules as Rules
 use Rattle.model.specs.Rules.{by, acts, stmt, goto, branch, if, call, return, spork, closing, spoin, transfer, coming, act, returned}
+use Rattle.places.specs.declared.Place.{Place}
 use Rattle.places.specs.declared.Place.the-variants.{At, Nowhere}
-use Rattle.places.specs.Places.{Places, FindsBlock}
-use Rattle.bytes.specs.Bytes.{byteAt, past}
-use Rattle.eval.specs.Code.{countAt, argumentsAt, statementsEnd, headEnd, transferOf, transferAt, Codes}
+use Rattle.places.specs.Places.{FindsCode}
+use Rattle.code.specs.Bytes.{byteAt, past}
+use Rattle.code.specs.Code.{countAt, argumentsAt, statementsEnd, headAt, headEnd, transferOf, transferAt, codeAt, codeEnd, coded}
 use Rattle.eval.specs.Given.{Looks}
 use Rattle.eval.proofs.Lists.{count-bound}
 use Rattle.eval.proofs.Buffers.{filled-none}
-use Rattle.eval.proofs.Decoding.{block-codes}
 use Rattle.rules.specs.declared.Ended.{Ended}
 use Rattle.rules.specs.declared.Ended.the-variants.{Gives, Runs}
 use Rattle.rules.specs.Acts.{transferBy, nextIn, nextOf, returnsOf, Ending, Giving}
 use Rattle.rules.proofs.Heads.{looked-none, looked-some}
-use Rattle.rules.proofs.Steps.{no-calls, some-calls, kind-is, next-transfer, comes-transfer, block-none, block-some}
+use Rattle.rules.proofs.Steps.{no-calls, some-calls, kind-is, next-is, next-transfer, comes-transfer, block-none, block-some}
 
 -- a rule that goes on returns nothing
 by-runs : (rule : ℕ) (o : Option Frame) → returned [] (by rule o) ≡ none
@@ -62,11 +62,14 @@ call-runs P m g x̄ b = looked (lookAll m x̄)
     placed l none = refl
     placed l (some B) = refl
 
-    called : (o : Option Frame) → returned [] (acts (Frames._>>=_ o (λ l. Frames._>>=_ (blockOf P m b) (λ B. some (Rules.Act.push (goTo m b 0) l))))) ≡ none
+    calling : Frame → Option Rules.Act
+    calling l = Frames._>>=_ (blockOf P m b) (λ B. some (Rules.Act.push (goTo m b 0) l))
+
+    called : (o : Option Frame) → returned [] (acts (Frames._>>=_ o calling)) ≡ none
     called none = refl
     called (some l) = placed l (blockOf P m b)
 
-    looked : (o : Option (List ℤ)) → returned [] (acts (Frames._>>=_ o (λ v̄. Frames._>>=_ (callee P g v̄) (λ l. Frames._>>=_ (blockOf P m b) (λ B. some (Rules.Act.push (goTo m b 0) l)))))) ≡ none
+    looked : (o : Option (List ℤ)) → returned [] (acts (Frames._>>=_ o (λ v̄. Frames._>>=_ (callee P g v̄) calling))) ≡ none
     looked none = refl
     looked (some v̄) = called (callee P g v̄)
 
@@ -79,12 +82,14 @@ spoin-runs : (P : Program) (m : Frame) (b c : ℕ) → returned [] (spoin P m b 
 unfolding spoin acts returned
 spoin-runs P m b c = go (unsnoc (m .calls))
   where
-    go : (o : Option (Snoc ℕ)) → returned [] (acts (Frames._>>=_ o (λ I. some (closing P m b c (I .front) (ltb (m .promoted) (length (m .calls))))))) ≡ none
+    go : (o : Option (Snoc ℕ))
+        → returned [] (acts (Frames._>>=_ o (λ I. some (closing P m b c (I .front) (ltb (m .promoted) (length (m .calls))))))) ≡ none
     go none = refl
     go (some I) = closing-runs P m b c (I .front) _
 
 -- a transfer that is no return
-transfer-runs : (P : Program) (m : Frame) (s : List ℕ) (f kind : ℕ) → (kind ≡ 3 → ⊥) → returned [] (transfer P m (transferOf kind s f)) ≡ none
+transfer-runs : (P : Program) (m : Frame) (s : List ℕ) (f kind : ℕ) → (kind ≡ 3 → ⊥)
+    → returned [] (transfer P m (transferOf kind s f)) ≡ none
 unfolding transfer transferOf goto spork
 transfer-runs P m s f zero z = by-runs No.goto _
 transfer-runs P m s f (suc zero) z = if-runs P m _ _ _
@@ -127,28 +132,29 @@ module _ (s : List ℕ) (m : Frame) (at : ℕ) {n done : ℕ} (e₁ : n ≡ byte
   ending-stmt out l =
       record {
         few = tt;
-        is = λ P B d. sym (rw (d .items (m .done) (omega (arith, d .count))) (stmt-runs m _));
-        left = λ B d. rw (d .items (m .done) (omega (arith, d .count))) (filled-none m out);
+        is = λ P H. let a = next-is s at (m .done) (omega arith) in sym (rw a (stmt-runs m _));
+        left = λ H. let a = next-is s at (m .done) (omega arith) in rw a (filled-none m out);
       }
 
   module _ (l : n ≤ done) {f i kind : ℕ} (e₃ : f ≡ past at 1) (e₄ : i ≡ statementsEnd s f n) (e₅ : kind ≡ byteAt s i) where
-    here : i ≡ statementsEnd s (past at 1) (byteAt s at)
+    here : i ≡ codeEnd s at
+    unfolding codeEnd
     here = rw (← e₁, ← e₃) e₄
 
-    at-transfer : (P : Program) (B : Block) → Codes s at B → (T : Transfer) → transferAt s i ≡ T
-        → returned [] (coming P m B (getElem? (B .code) (m .done))) ≡ returned [] (transfer P m T)
-    at-transfer P B d T q = ap (returned []) (comes-transfer m B d (omega arith) i here P ∙ ap (transfer P m) q)
+    at-transfer : (P : Program) (H : Head) (T : Transfer) → transferAt s i ≡ T
+        → returned [] (coming P m (coded H s at) (getElem? (codeAt s at) (m .done))) ≡ returned [] (transfer P m T)
+    at-transfer P H T q = ap (returned []) (comes-transfer s at m H (omega arith) i here P ∙ ap (transfer P m) q)
 
-    returns-at : (B : Block) → Codes s at B → (T : Transfer) → transferAt s i ≡ T → returnsOf m (nextIn m B) ≡ returnsOf m (some T)
-    returns-at B d T q = ap (returnsOf m) (next-transfer m B d (omega arith) i here ∙ ap some q)
+    returns-at : (H : Head) (T : Transfer) → transferAt s i ≡ T → returnsOf m (nextIn m (coded H s at)) ≡ returnsOf m (some T)
+    returns-at H T q = ap (returnsOf m) (next-transfer s at m H (omega arith) i here ∙ ap some q)
 
     pub ending-other : (out : List ℤ) → (kind ≡ 3 → ⊥) → Ending s m at out Runs out
     ending-other out z =
         let q = kind-is s i e₅ refl kind refl in
         record {
           few = tt;
-          is = λ P B d. sym (at-transfer P B d _ q ∙ transfer-runs P m s _ kind z);
-          left = λ B d. rw (returns-at B d _ q, no-returns m s _ kind z) (filled-none m out);
+          is = λ P H. sym (at-transfer P H _ q ∙ transfer-runs P m s _ kind z);
+          left = λ H. rw (returns-at H _ q, no-returns m s _ kind z) (filled-none m out);
         }
 
     module _ (z : kind ≡ 3) {c : ℕ} (e₆ : c ≡ length (m .calls)) where
@@ -163,8 +169,8 @@ module _ (s : List ℕ) (m : Frame) (at : ℕ) {n done : ℕ} (e₁ : n ≡ byte
           let k = some-calls (m .calls) (λ y. o (e₆ ∙ y)) in
           record {
             few = tt;
-            is = λ P B d. sym (at-transfer P B d _ q ∙ return-runs m _ k);
-            left = λ B d. rw (returns-at B d _ q, k) (filled-none m out);
+            is = λ P H. sym (at-transfer P H _ q ∙ return-runs m _ k);
+            left = λ H. rw (returns-at H _ q, k) (filled-none m out);
           }
 
       module _ (o : c ≡ 0) (out₀ out : List ℤ) (ok : Bool) {j : ℕ} (e₇ : j ≡ past i 1) (e₈ : Looks m s j out₀ ok out) where
@@ -174,8 +180,8 @@ module _ (s : List ℕ) (m : Frame) (at : ℕ) {n done : ℕ} (e₁ : n ≡ byte
             let q = at-return j e₇ in
             record {
               few = tt;
-              is = λ P B d. sym (at-transfer P B d _ q ∙ return-none m _ (looked-none s j ok out _ (e₈ .is) t));
-              left = λ B d. rw (returns-at B d _ q, no-calls (m .calls) (sym e₆ ∙ o)) (e₈ .left);
+              is = λ P H. sym (at-transfer P H _ q ∙ return-none m _ (looked-none s j ok out _ (e₈ .is) t));
+              left = λ H. rw (returns-at H _ q, no-calls (m .calls) (sym e₆ ∙ o)) (e₈ .left);
             }
 
         pub ending-gives : {y : ℕ} → not ok ≡ false → y ≡ countAt s j → Ending s m at out₀ (Gives y) out
@@ -185,38 +191,32 @@ module _ (s : List ℕ) (m : Frame) (at : ℕ) {n done : ℕ} (e₁ : n ≡ byte
             let k = no-calls (m .calls) (sym e₆ ∙ o) in
             record {
               few = count-bound s j e;
-              is = λ P B d.
+              is = λ P H.
                   ap (λ (a : ℕ). some (take a out)) e
-                  ∙ sym (at-transfer P B d _ q ∙ return-gives m _ _ k (looked-some s j ok out _ (e₈ .is) t));
-              left = λ B d. rw (returns-at B d _ q, k) (e₈ .left);
+                  ∙ sym (at-transfer P H _ q ∙ return-gives m _ _ k (looked-some s j ok out _ (e₈ .is) t));
+              left = λ H. rw (returns-at H _ q, k) (e₈ .left);
             }
 
 -- by the frame's block
-module _ (s places : List ℕ) (m : Frame) {f b : ℕ} (h : f ≡ m .function) (g : b ≡ m .block) where
-  pub giving-nowhere : (out : List ℤ) → FindsBlock places f b Nowhere → Giving s places m out Runs out
+module _ (s places : List ℕ) (m : Frame) (place : Place) {f b : ℕ} (h : f ≡ m .function) (g : b ≡ m .block)
+    (d : FindsCode places f b place) where
+  pub giving-nowhere : (out : List ℤ) → place ≡ Nowhere → Giving s places m out Runs out
   unfolding act acts returned nextOf returnsOf
-  giving-nowhere out d =
+  giving-nowhere out w =
       record {
         few = tt;
-        is = λ P p. sym (rw (block-none s places m h g P p d));
-        left = λ P p. rw (block-none s places m h g P p d) (filled-none m out);
+        is = λ P p. sym (rw (block-none s places m place h g d P p w));
+        left = λ P p. rw (block-none s places m place h g d P p w) (filled-none m out);
       }
 
-  pub giving-at : (out₀ out : List ℤ) (at : ℕ) (r : Ended) {i : ℕ} → FindsBlock places f b (At at) → i ≡ headEnd s at
-      → Ending s m i out₀ r out
-      → Giving s places m out₀ r out
+  pub giving-at : (out₀ out : List ℤ) (at : ℕ) (r : Ended) → place ≡ At at → Ending s m at out₀ r out → Giving s places m out₀ r out
   unfolding act acts nextOf
-  giving-at out₀ out at r {i} d e k =
+  giving-at out₀ out at r w k =
       record {
         few = k .few;
-        is = λ P p. rw (block-some s places m h g P p at d) (k .is P (d s P p .0) (codes P p));
-        left = λ P p. rw (block-some s places m h g P p at d) (k .left (d s P p .0) (codes P p));
+        is = λ P p. let (H, q, u) = block-some s places m place h g d P p at w in rw q (k .is P H);
+        left = λ P p. let (H, q, u) = block-some s places m place h g d P p at w in rw q (k .left H);
       }
-    where
-      codes : (P : Program) (p : Places s P places) → Codes s i (d s P p .0)
-      codes P p =
-          let (B, q, t) = d s P p in
-          subst (λ (j : ℕ). Codes s j B) (sym e) (block-codes s at B (t .behind) (p .short) (t .is) .1)
 
 -- what is given are the values of the temporaries returned
 module _ (P : Program) (m : Frame) (v̄ : List ℤ) where

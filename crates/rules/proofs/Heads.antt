@@ -1,9 +1,9 @@
 -- Entering a block, a callee's first frame, and a child's: from what the code looked up.
-use Prim.Native.Nat.{ℕ, zero, suc, _<_}
+use Prim.Native.Nat.{ℕ, _<_}
 use mathlib.Core.Path.{_≡_, refl, sym, ap, subst, _∙_}
 use mathlib.Core.Bool.{Bool, true, false, not}
 use mathlib.Core.Option.{Option, none, some}
-use mathlib.Core.List.{List, []}
+use mathlib.Core.List.{List}
 use native.Mathlib.Omega.{arith}
 use borrow.Author.Tests.{eq-eqb, ne-eqb, not-true, not-false}
 use lib.Dec.{eqb}
@@ -11,8 +11,8 @@ use lib.IntN.{ℤ, pos}
 use lib.ListN.{length, getElem?, take}
 use lib.Seq.{length-take-le}
 use Rattle.model.specs.Lists.{Each}
-use Rattle.model.specs.Syntax.{SpawnCall, Function, Program}
-use Rattle.model.specs.Pool.{Frame, temporaries, begin, functionOf, blockOf}
+use Rattle.model.specs.Syntax.{SpawnCall, Signature, Function, Block, Program}
+use Rattle.model.specs.Pool.{Frame, temporaries, begin, functionOf, blockIn, blockOf}
 use Rattle.model.specs.Frames as Frames
 use Rattle.model.specs.Frames.{when, lookAll, bindAll, goTo, entering, enter, callee}
 use Rattle.model.specs.Rules.{child}
@@ -20,27 +20,18 @@ use Rattle.model.proofs.Guarantees as Guarantees
 use Rattle.places.specs.declared.Place.{Place}
 use Rattle.places.specs.declared.Place.the-variants.{At, Nowhere}
 use Rattle.places.specs.Places.{Places, spawnIn, FindsFunction, FindsBlock, FindsSpawn}
-use Rattle.bytes.specs.Bytes.{byteAt, past}
-use Rattle.eval.specs.Code.{most, run, countAt, argumentsAt}
+use Rattle.code.specs.Bytes.{byteAt, past}
+use Rattle.code.specs.Code.{most, countAt, argumentsAt, headAt, blockAt, spawnAt, signatureAt}
 use Rattle.eval.specs.Given.{optional, lookedIn, filled, Looks}
-use Rattle.eval.proofs.Leaves.{count-le}
 use Rattle.eval.proofs.Buffers.{filled-none}
-use Rattle.eval.proofs.Decoding.{block-codes, spawn-is, function-parameters}
+use Rattle.code.proofs.Ends.{count-le, arguments-length}
+use Rattle.code.proofs.Decoding.{block-is, spawn-is, signature-is}
 use Rattle.rules.specs.declared.Acted.{Acted}
 use Rattle.rules.specs.declared.Does.{Does}
 use Rattle.rules.specs.declared.Does.the-variants.{Push}
-use Rattle.rules.specs.Acts.{acting, jam, Entering, Enters, Takes, childBy, spawnsOf, Child, Spawns}
+use Rattle.rules.specs.Acts.{acting, jam, Entering, Enters, Takes, childBy, spawnsOf, Spawns}
 
--- how long an argument list is, and the values looked up for it
-run-length : (s : List ℕ) (at n : ℕ) → length (run s at n) ≡ n
-unfolding run
-run-length s at zero = refl
-run-length s at (suc n) = ap suc (run-length s (past at 1) n)
-
-arguments-length : (s : List ℕ) (at : ℕ) → length (argumentsAt s at) ≡ countAt s at
-unfolding argumentsAt
-arguments-length s at = run-length s (past at 1) (countAt s at)
-
+-- how long the values looked up for an argument list are
 pub passed-length : (s : List ℕ) (at : ℕ) (out : List ℤ) {n : ℕ} → length out ≡ most → n ≡ countAt s at → length (take n out) ≡ n
 passed-length s at out {n} l e = length-take-le n out (omega (arith, count-le s at))
 
@@ -53,19 +44,29 @@ module _ (s : List ℕ) (at : ℕ) (ok : Bool) (out : List ℤ) (o : Option (Lis
   looked-some h = sym e ∙ ap (λ (b : Bool). lookedIn s at b out) (not-false ok h)
 
 -- entering a block by its number: the counts agree, or differ, or it is not there
-module _ (s places : List ℕ) (f b n : ℕ) (does : Does) (x : ℕ) where
-  module _ (at : ℕ) {c : ℕ} (d : FindsBlock places f b (At at)) (e : c ≡ countAt s at) where
+module _ (s places : List ℕ) (f b n : ℕ) (does : Does) (x : ℕ) (place : Place) (d : FindsBlock places f b place) where
+  module _ (at : ℕ) {c : ℕ} (w : place ≡ At at) (e : c ≡ countAt s at) where
+    found : (P : Program) → Places s P places → blockIn (getElem? P f) b ≡ some (blockAt s at)
+    found P p =
+        let (B, q, t) = subst (FindsBlock places f b) w d s P p in
+        q ∙ ap some (block-is s at B (t .behind) (p .short) (t .is))
+
+    parameters : (P : Program) → Places s P places → Each (λ x. x < temporaries) (argumentsAt s at)
+    unfolding blockAt headAt
+    parameters P p =
+        let (B, q, t) = subst (FindsBlock places f b) w d s P p in
+        subst (λ (C : Block). Each (λ x. x < temporaries) (C .head .parameters)) (block-is s at B (t .behind) (p .short) (t .is))
+        (Guarantees.block .gives s at B (t .behind) (t .is) .head .parameters .each)
+
     block-takes : (P : Program) → Places s P places → (m : Frame) (v̄ : List ℤ) → m .function ≡ f
         → enter P m b v̄ ≡ when (eqb c (length v̄)) (some (bindAll (goTo m b 0) (argumentsAt s at) v̄))
-    unfolding enter entering blockOf functionOf
-    block-takes P p m v̄ h =
-        let (B, q, t) = d s P p in
-        rw (h, q, block-codes s at B (t .behind) (p .short) (t .is) .0, arguments-length s at, ← e)
+    unfolding enter entering blockOf functionOf blockAt headAt
+    block-takes P p m v̄ h = rw (h, found P p, arguments-length s at, ← e)
 
-    pub enters : c ≡ n → Enters s places f b n does x (record { does = does; number = x; block = b; count = n; value = pos 0; parameters = at })
+    pub enters : c ≡ n
+        → Enters s places f b n does x (record { does = does; number = x; block = b; count = n; value = pos 0; parameters = at })
     unfolding when
     enters g P p =
-        let (B, q, t) = d s P p in
         Entering.arrives
         (record {
           does = refl;
@@ -73,11 +74,7 @@ module _ (s places : List ℕ) (f b n : ℕ) (does : Does) (x : ℕ) where
           block = refl;
           count = refl;
           value = refl;
-          parameters =
-              record {
-                each = subst (Each (λ x. x < temporaries)) (block-codes s at B (t .behind) (p .short) (t .is) .0) (Guarantees.block .gives s at B (t .behind) (t .is) .head .parameters .each);
-                count = sym e ∙ g;
-              };
+          parameters = record { each = parameters P p; count = sym e ∙ g };
           is = λ m v̄ h l. block-takes P p m v̄ h ∙ rw (l, eq-eqb c n g);
         })
 
@@ -85,83 +82,69 @@ module _ (s places : List ℕ) (f b n : ℕ) (does : Does) (x : ℕ) where
     unfolding when
     not-enters r g q P p = Entering.jams q (λ m v̄ h l. block-takes P p m v̄ h ∙ rw (l, ne-eqb c n g))
 
-  pub not-there : (r : Acted) → FindsBlock places f b Nowhere → r ≡ jam → Enters s places f b n does x r
+  pub not-there : (r : Acted) → place ≡ Nowhere → r ≡ jam → Enters s places f b n does x r
   unfolding enter blockOf functionOf
-  not-there r d q P p = Entering.jams q (λ m v̄ h l. rw (h, d s P p))
+  not-there r w q P p = Entering.jams q (λ m v̄ h l. rw (h, subst (FindsBlock places f b) w d s P p))
 
 -- a callee: it is there, or not
-module _ (s places : List ℕ) (g n : ℕ) where
-  pub takes-at : (at : ℕ) {c : ℕ} → FindsFunction places g (At at) → c ≡ byteAt s at → Takes s places g n (eqb c n)
-  unfolding callee when
-  takes-at at {c} d e P p v̄ l =
-      let (G, q, t) = d s P p in
-      let w : G .signature .parameters ≡ c = function-parameters s at G (t .behind) (t .is) ∙ sym e in
-      rw (q, w, l) (go (eqb c n))
+module _ (s places : List ℕ) (g n : ℕ) (place : Place) (d : FindsFunction places g place) where
+  pub takes-at : (at : ℕ) {c : ℕ} → place ≡ At at → c ≡ byteAt s at → Takes s places g n (eqb c n)
+  unfolding callee when signatureAt
+  takes-at at {c} w e =
+      record {
+        is = λ P p v̄ l.
+            let (G, q, t) = subst (FindsFunction places g) w d s P p in
+            let y = ap (λ (S : Signature). S .parameters) (signature-is s at G (t .behind) (p .short) (t .is)) ∙ sym e in
+            rw (q, y, l) (go v̄ (eqb c n));
+      }
     where
-      go : (t : Bool) → Frames.when t (some (begin g v̄)) ≡ optional t (begin g v̄)
-      go true = refl
-      go false = refl
+      go : (v̄ : List ℤ) (t : Bool) → Frames.when t (some (begin g v̄)) ≡ optional t (begin g v̄)
+      go v̄ true = refl
+      go v̄ false = refl
 
-  pub takes-none : FindsFunction places g Nowhere → Takes s places g n false
+  pub takes-none : place ≡ Nowhere → Takes s places g n false
   unfolding callee
-  takes-none d P p v̄ l = rw (d s P p)
-
--- a lookup that found something
-pub block-at : (places : List ℕ) (f b : ℕ) {place : Place} {at : ℕ} → place ≡ At at → FindsBlock places f b place → FindsBlock places f b (At at)
-block-at places f b e h = subst (FindsBlock places f b) e h
-
-pub function-at : (places : List ℕ) (f : ℕ) {place : Place} {at : ℕ} → place ≡ At at → FindsFunction places f place → FindsFunction places f (At at)
-function-at places f e h = subst (FindsFunction places f) e h
-
-pub spawn-at : (places : List ℕ) (f π : ℕ) {place : Place} {at : ℕ} → place ≡ At at → FindsSpawn places f π place → FindsSpawn places f π (At at)
-spawn-at places f π e h = subst (FindsSpawn places f π) e h
-
--- and one that found nothing
-pub no-block-at : (places : List ℕ) (f b : ℕ) {place : Place} → place ≡ Nowhere → FindsBlock places f b place → FindsBlock places f b Nowhere
-no-block-at places f b e h = subst (FindsBlock places f b) e h
-
-pub no-function-at : (places : List ℕ) (f : ℕ) {place : Place} → place ≡ Nowhere → FindsFunction places f place → FindsFunction places f Nowhere
-no-function-at places f e h = subst (FindsFunction places f) e h
-
-pub no-spawn-at : (places : List ℕ) (f π : ℕ) {place : Place} → place ≡ Nowhere → FindsSpawn places f π place → FindsSpawn places f π Nowhere
-no-spawn-at places f π e h = subst (FindsSpawn places f π) e h
+  takes-none w = record { is = λ P p v̄ l. rw (subst (FindsFunction places g) w d s P p) }
 
 -- a function's spawn call, in one step
-pub spawn-then : {A : Type 0} (o : Option Function) (π : ℕ) (f : SpawnCall → Option A) → Frames._>>=_ o (λ F. Frames._>>=_ (getElem? (F .spawns) π) f) ≡ Frames._>>=_ (spawnIn o π) f
+pub spawn-then : {A : Type 0} (o : Option Function) (π : ℕ) (f : SpawnCall → Option A)
+    → Frames._>>=_ o (λ F. Frames._>>=_ (getElem? (F .spawns) π) f) ≡ Frames._>>=_ (spawnIn o π) f
 unfolding spawnIn
 spawn-then none π f = refl
 spawn-then (some F) π f = refl
 
 -- a spawned child's first frame, and what is left of its arguments
-module _ (s places : List ℕ) (m : Frame) (π : ℕ) (r : Acted) {f : ℕ} (h : f ≡ m .function) where
-  child-is : (P : Program) → child P m π ≡ Frames._>>=_ (spawnIn (getElem? P f) π) (λ S. Frames._>>=_ (lookAll m (S .arguments)) (λ v̄. callee P (S .function) v̄))
+module _ (s places : List ℕ) (m : Frame) (π : ℕ) (r : Acted) (place : Place) {f : ℕ} (h : f ≡ m .function)
+    (d : FindsSpawn places f π place) where
+  child-is : (P : Program)
+      → child P m π
+      ≡ Frames._>>=_ (spawnIn (getElem? P f) π) (λ S. Frames._>>=_ (lookAll m (S .arguments)) (λ v̄. callee P (S .function) v̄))
   unfolding child functionOf
   child-is P = rw h (spawn-then (getElem? P (m .function)) π _)
 
   no-child : (P : Program) (out : List ℤ) → r ≡ jam → child P m π ≡ none → childBy (r .does) r out ≡ child P m π
   no-child P out e q = rw e (sym q)
 
-  pub no-spawn : (out : List ℤ) → FindsSpawn places f π Nowhere → r ≡ jam → Spawns s places m π out r out
+  pub no-spawn : (out : List ℤ) → place ≡ Nowhere → r ≡ jam → Spawns s places m π out r out
   unfolding spawnsOf
-  no-spawn out d e P p =
-      record {
-        is = no-child P out e (child-is P ∙ rw (d s P p));
-        refused = λ y. e;
-        left = filled-none m out ∙ rw (← h, d s P p);
-      }
+  no-spawn out w e P p =
+      let c = subst (FindsSpawn places f π) w d s P p in
+      record { is = no-child P out e (child-is P ∙ rw c); refused = λ y. e; left = filled-none m out ∙ rw (← h, c) }
 
-  module _ (out₀ out : List ℤ) (at : ℕ) (ok : Bool) {l : ℕ} (d : FindsSpawn places f π (At at)) (e₁ : l ≡ past at 1)
-      (e₂ : Looks m s l out₀ ok out) where
-    child-at : (P : Program) → Places s P places → child P m π ≡ Frames._>>=_ (lookAll m (argumentsAt s l)) (λ v̄. callee P (byteAt s at) v̄)
-    child-at P p =
-        let (S, q, i) = d s P p in
-        child-is P ∙ rw (q, spawn-is s at S (i .behind) (p .short) (i .is), e₁)
+  module _ (out₀ out : List ℤ) (at : ℕ) (ok : Bool) {l : ℕ} (w : place ≡ At at) (e₁ : l ≡ past at 1) (e₂ : Looks m s l out₀ ok out) where
+    spawn-there : (P : Program) → Places s P places → spawnIn (getElem? P f) π ≡ some (spawnAt s at)
+    spawn-there P p =
+        let (S, q, i) = subst (FindsSpawn places f π) w d s P p in
+        q ∙ ap some (spawn-is s at S (i .behind) (p .short) (i .is))
+
+    child-at : (P : Program) → Places s P places
+        → child P m π ≡ Frames._>>=_ (lookAll m (argumentsAt s l)) (λ v̄. callee P (byteAt s at) v̄)
+    unfolding spawnAt
+    child-at P p = child-is P ∙ rw (spawn-there P p, e₁)
 
     child-left : (P : Program) → Places s P places → out ≡ filled m (spawnsOf (spawnIn (getElem? P (m .function)) π)) out₀
-    unfolding spawnsOf
-    child-left P p =
-        let (S, q, i) = d s P p in
-        e₂ .left ∙ rw (← h, q, spawn-is s at S (i .behind) (p .short) (i .is), e₁)
+    unfolding spawnsOf spawnAt
+    child-left P p = e₂ .left ∙ rw (← h, spawn-there P p, e₁)
 
     pub not-looked : not ok ≡ true → r ≡ jam → Spawns s places m π out₀ r out
     not-looked t e P p =
@@ -171,11 +154,12 @@ module _ (s places : List ℕ) (m : Frame) (π : ℕ) (r : Acted) {f : ℕ} (h :
           left = child-left P p;
         }
 
-    module _ (there : Bool) {g n : ℕ} (t : not ok ≡ false) (z : length out ≡ most) (e₃ : g ≡ byteAt s at) (e₄ : n ≡ countAt s l) (k : Takes s places g n there) where
+    module _ (there : Bool) {g n : ℕ} (t : not ok ≡ false) (y : length out ≡ length out₀) (z : length out₀ ≡ most) (e₃ : g ≡ byteAt s at)
+        (e₄ : n ≡ countAt s l) (k : Takes s places g n there) where
       child-of : (P : Program) → Places s P places → child P m π ≡ optional there (begin g (take n out))
       child-of P p =
           child-at P p
-          ∙ rw (looked-some s l ok out _ (e₂ .is) t, ← e₃, ← e₄) (k P p (take n out) (passed-length s l out z e₄))
+          ∙ rw (looked-some s l ok out _ (e₂ .is) t, ← e₃, ← e₄) (k .is P p (take n out) (passed-length s l out (y ∙ z) e₄))
 
       pub not-taken : not there ≡ true → r ≡ jam → Spawns s places m π out₀ r out
       not-taken u e P p =

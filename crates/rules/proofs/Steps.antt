@@ -1,7 +1,7 @@
 -- What the code's acts come to: each rule, from what the code read, looked up and entered.
-use Prim.Native.Nat.{ℕ, zero, suc, _+_, _-_, _≤_, _<_, min}
+use Prim.Native.Nat.{ℕ, zero, suc, _-_, _≤_, _<_, min}
 use mathlib.Core.Path.{_≡_, refl, sym, ap, subst, subst⁻¹, _∙_}
-use mathlib.Core.Bool.{Bool, true, false, not, cond, true≢false}
+use mathlib.Core.Bool.{Bool, true, false, not, true≢false}
 use mathlib.Core.Option.{Option, none, some}
 use mathlib.Core.List.{List, [], _∷_, _++_}
 use native.Mathlib.Nat.{min-eq-left, min-eq-right}
@@ -14,33 +14,37 @@ use lib.Dec.{eqb, ltb}
 use lib.IntN.{ℤ, pos}
 use lib.ListN.{length, getElem?, take}
 use Rattle.model.specs.Numbers as No
-use Rattle.model.specs.Lists.{Snoc, snoc, unsnoc, equal}
+use Rattle.model.specs.Lists.{Each, Snoc, snoc, unsnoc, equal}
 use Rattle.model.specs.Values.{same}
-use Rattle.model.specs.Syntax.{Expression, Transfer, Block, Program}
+use Rattle.model.specs.Syntax.{Transfer, Head, Block, Program}
 use Rattle.model.specs.Pool.{Frame, temporaries, mostCalls, begin, functionOf, blockOf}
 use Rattle.model.specs.Frames as Frames
-use Rattle.model.specs.Frames.{when, lookAll, eval, bind, bindAll, goTo, deque, enter, callee}
+use Rattle.model.specs.Frames.{when, lookAll, eval, bindAll, goTo, deque, enter, callee}
 use Rattle.model.specs.Rules as Rules
 use Rattle.model.specs.Rules.{by, acts, stmt, goto, branch, if, call, return, spork, closing, spoin, transfer, coming, act}
 use Rattle.model.specs.Limits.{InStatement}
 use Rattle.model.proofs.Facts.{each-at, past-at}
 use Rattle.model.proofs.Guarantees as Guarantees
 use Rattle.words.proofs.Wrapping.{zero-test}
+use Rattle.places.specs.declared.Place.{Place}
 use Rattle.places.specs.declared.Place.the-variants.{At, Nowhere}
-use Rattle.places.specs.Places.{spawnIn, Places, FindsBlock, FindsSpawn}
-use Rattle.bytes.specs.Bytes.{byteAt, past}
+use Rattle.places.specs.Places.{spawnIn, Places, FindsBlock, FindsSpawn, FindsCode}
+use Rattle.code.specs.Bytes.{byteAt, past}
+use Rattle.code.specs.Code.{most, countAt, argumentsAt, listEnd, expressionAt, expressionEnd, statementAt, statementsEnd, headAt, headEnd}
+use Rattle.code.specs.Code.{gotoAt, ifAt, callAt, returnAt, sporkAt, spoinAt, transferOf, transferAt, codeAt, codeEnd, coded, blockAt}
 use Rattle.eval.specs.declared.Evaluated.{Evaluated}
-use Rattle.eval.specs.Code.{most, countAt, argumentsAt, listEnd, expressionAt, expressionEnd, statementAt, statementsEnd, headEnd, transferOf, transferAt, Codes}
-use Rattle.eval.specs.Given.{optional, Evaluates, filled, Looks}
-use Rattle.eval.proofs.Leaves.{evaluated-is, evaluated-end}
+use Rattle.eval.specs.declared.Evaluated.the-variants.{Value, Unbound}
+use Rattle.eval.specs.Given.{optional, evaluatedAs, filled, Looks}
+use Rattle.eval.proofs.Leaves.{none-is, value-is}
 use Rattle.eval.proofs.Lists.{count-bound}
 use Rattle.eval.proofs.Buffers.{filled-none}
-use Rattle.eval.proofs.Decoding.{block-codes}
+use Rattle.code.proofs.Ends.{statements-length, statements-item}
+use Rattle.code.proofs.Decoding.{code-is}
 use Rattle.rules.specs.declared.Acted.{Acted}
 use Rattle.rules.specs.declared.Does.{Does}
 use Rattle.rules.specs.declared.Does.the-variants.{Bind, Enter, Open, Close, Push, Pop, Join}
-use Rattle.rules.specs.Acts as Rule
-use Rattle.rules.specs.Acts.{acting, jam, closed, actBy, Parameters, soundBy, Is, nextIn, nextOf, argumentsOf, Passes, Entering, Enters, Takes}
+use Rattle.rules.specs.Acts.{acting, jam, closed, actBy, Parameters, soundBy, Is, nextIn, nextOf, argumentsOf, Passes, Entering}
+use Rattle.rules.specs.Acts.{Enters, Takes, Transfers, Moves, Branches, Valued, NoIf, Comes, Acts}
 use Rattle.rules.proofs.Heads.{passed-length, looked-none, looked-some, spawn-then}
 
 module _ (s : List ℕ) (m : Frame) (out : List ℤ) (r : Acted) where
@@ -91,7 +95,7 @@ module _ (s : List ℕ) (m : Frame) (out : List ℤ) (r : Acted) where
       }
   moved P does rule f b x k e z h (Entering.jams j a) = refused j (ap (by rule) (a k [] h refl))
 
--- goto
+-- goto and call: the values of the arguments, looked up
 module _ (s places : List ℕ) (m : Frame) (at : ℕ) (out₀ out : List ℤ) (r : Acted) (ok : Bool) {l : ℕ} (e₁ : l ≡ past at 1)
     (e₂ : Looks m s l out₀ ok out) where
   unbound : not ok ≡ true → lookAll m (argumentsAt s (past at 1)) ≡ none
@@ -103,94 +107,110 @@ module _ (s places : List ℕ) (m : Frame) (at : ℕ) (out₀ out : List ℤ) (r
   passing : {t : Rules.Act} → Is s m out r t → Passes s m (argumentsAt s (past at 1)) out₀ r out t
   passing h = record { is = h; left = e₂ .left ∙ ap (λ (i : ℕ). filled m (argumentsAt s i) out₀) e₁ }
 
-  pub goto-stuck : not ok ≡ true → r ≡ jam → Rule.Goto s places m at out₀ r out
-  unfolding goto by
-  goto-stuck t h P p = passing (refused s m out r h (rw (unbound t)))
+  pub goto-stuck : not ok ≡ true → r ≡ jam → Transfers s places m (gotoAt s at) out₀ r out
+  unfolding transfer argumentsOf goto by
+  goto-stuck t h = record { is = λ P p. passing (refused s m out r h (rw (unbound t))) }
 
-  pub goto-goes : {f b n : ℕ} → not ok ≡ false → length out ≡ most → f ≡ m .function → b ≡ byteAt s at → n ≡ countAt s l
-      → Enters s places f b n Enter No.goto r → Rule.Goto s places m at out₀ r out
-  unfolding goto
-  goto-goes {f} {b} {n} t z h e₃ e₄ d P p =
-      passing
-      (is-to s m out r (entered s m out r P No.goto f b n (sym h) (passed-length s l out z e₄) (d P p)) (sym (rw (given t, ← e₃, ← e₄))))
+  pub goto-goes : {f b n : ℕ} → not ok ≡ false → length out ≡ length out₀ → length out₀ ≡ most → f ≡ m .function → b ≡ byteAt s at
+      → n ≡ countAt s l → Enters s places f b n Enter No.goto r → Transfers s places m (gotoAt s at) out₀ r out
+  unfolding transfer argumentsOf goto
+  goto-goes {f} {b} {n} t y z h e₃ e₄ d =
+      record {
+        is = λ P p.
+            passing
+            (is-to s m out r (entered s m out r P No.goto f b n (sym h) (passed-length s l out (y ∙ z) e₄) (d P p))
+            (sym (rw (given t, ← e₃, ← e₄))));
+      }
 
-  -- call
-  pub call-unbound : (b : ℕ) → not ok ≡ true → r ≡ jam → Rule.Call s places m at b out₀ r out
-  unfolding call acts
-  call-unbound b t h P p = passing (refused s m out r h (rw (unbound t)))
+  pub call-unbound : not ok ≡ true → r ≡ jam → Transfers s places m (callAt s at) out₀ r out
+  unfolding transfer argumentsOf call acts
+  call-unbound t h = record { is = λ P p. passing (refused s m out r h (rw (unbound t))) }
 
-  module _ (b : ℕ) (there : Bool) {g n : ℕ} (t : not ok ≡ false) (z : length out ≡ most) (e₃ : g ≡ byteAt s at) (e₄ : n ≡ countAt s l) (k : Takes s places g n there) where
+  module _ (there : Bool) {g n : ℕ} (t : not ok ≡ false) (y : length out ≡ length out₀) (z : length out₀ ≡ most) (e₃ : g ≡ byteAt s at)
+      (e₄ : n ≡ countAt s l) (k : Takes s places g n there) where
     callee-is : (P : Program) → Places s P places → callee P (byteAt s at) (take (countAt s l) out) ≡ optional there (begin g (take n out))
-    callee-is P p = rw (← e₃, ← e₄) (k P p (take n out) (passed-length s l out z e₄))
+    callee-is P p = rw (← e₃, ← e₄) (k .is P p (take n out) (passed-length s l out (y ∙ z) e₄))
 
-    pub call-missing : not there ≡ true → r ≡ jam → Rule.Call s places m at b out₀ r out
-    unfolding call acts
-    call-missing u h P p = passing (refused s m out r h (rw (given t, callee-is P p, not-true there u)))
+    pub call-missing : not there ≡ true → r ≡ jam → Transfers s places m (callAt s at) out₀ r out
+    unfolding transfer argumentsOf call acts
+    call-missing u h = record { is = λ P p. passing (refused s m out r h (rw (given t, callee-is P p, not-true there u))) }
 
-    pub call-nowhere : {f : ℕ} → not there ≡ false → f ≡ m .function → FindsBlock places f b Nowhere → r ≡ jam
-        → Rule.Call s places m at b out₀ r out
-    unfolding call acts blockOf functionOf
-    call-nowhere u q d h P p = passing (refused s m out r h (rw (given t, callee-is P p, not-false there u, ← q, d s P p)))
+    module _ (place : Place) {f i b : ℕ} (u : not there ≡ false) (q : f ≡ m .function) (e₅ : i ≡ listEnd s l) (e₆ : b ≡ byteAt s i)
+        (d : FindsBlock places f b place) where
+      return-block : byteAt s (listEnd s (past at 1)) ≡ b
+      return-block = rw (← e₁, ← e₅) (sym e₆)
 
-    pub call-goes : (i : ℕ) {f : ℕ} → not there ≡ false → f ≡ m .function → FindsBlock places f b (At i) → r ≡ acting Push g b n
-        → Rule.Call s places m at b out₀ r out
-    unfolding call acts blockOf functionOf
-    call-goes i u q d h P p =
-        let (B, w, _) = d s P p in
-        passing (rw h (record { act = sym (rw (given t, callee-is P p, not-false there u, ← q, w)); sound = tt }))
+      pub call-nowhere : place ≡ Nowhere → r ≡ jam → Transfers s places m (callAt s at) out₀ r out
+      unfolding transfer argumentsOf call acts blockOf functionOf
+      call-nowhere w h =
+          record {
+            is = λ P p.
+                let c = subst (FindsBlock places f b) w d s P p in
+                passing (refused s m out r h (rw (given t, callee-is P p, not-false there u, return-block, ← q, c)));
+          }
+
+      pub call-goes : (j : ℕ) → place ≡ At j → r ≡ acting Push g b n → Transfers s places m (callAt s at) out₀ r out
+      unfolding transfer argumentsOf call acts blockOf functionOf
+      call-goes j w h =
+          record {
+            is = λ P p.
+                let (B, c, _) = subst (FindsBlock places f b) w d s P p in
+                passing
+                (rw h (record { act = sym (rw (given t, callee-is P p, not-false there u, return-block, ← q, c)); sound = tt }));
+          }
 
 -- then, else
-module _ (s places : List ℕ) (f b c : ℕ) (v : ℤ) (r : Acted) (g : SFits w32 v) where
-  pub branch-else : ofZ w32 v ≡ 0 → Enters s places f c 0 Enter No.else r → Rule.Branch s places f b c v r
+module _ (s places : List ℕ) (m : Frame) (b c : ℕ) (v : ℤ) (r : Acted) {f : ℕ} (g : SFits w32 v) (h : f ≡ m .function) where
+  pub branch-else : ofZ w32 v ≡ 0 → Enters s places f c 0 Enter No.else r → Branches s places m b c v r
   unfolding branch
-  branch-else t d P p m h out =
+  branch-else t d =
       let e : same v (pos 0) ≡ true = sym (zero-test v g) ∙ eq-eqb (ofZ w32 v) 0 t in
-      rw e (entered s m out r P No.else f c 0 h refl (d P p))
+      record { is = λ P p out. rw e (entered s m out r P No.else f c 0 (sym h) refl (d P p)) }
 
-  pub branch-then : (ofZ w32 v ≡ 0 → ⊥) → Enters s places f b 0 Enter No.then r → Rule.Branch s places f b c v r
+  pub branch-then : (ofZ w32 v ≡ 0 → ⊥) → Enters s places f b 0 Enter No.then r → Branches s places m b c v r
   unfolding branch
-  branch-then t d P p m h out =
+  branch-then t d =
       let e : same v (pos 0) ≡ false = sym (zero-test v g) ∙ ne-eqb (ofZ w32 v) 0 t in
-      rw e (entered s m out r P No.then f b 0 h refl (d P p))
+      record { is = λ P p out. rw e (entered s m out r P No.then f b 0 (sym h) refl (d P p)) }
 
--- what an evaluation says where the flag is down, and up
-module _ {A : Type 0} (ok : Bool) (a : A) {o : Option A} (e : optional ok a ≡ o) where
-  none-of : not ok ≡ true → o ≡ none
-  none-of t = sym e ∙ ap (λ (b : Bool). optional b a) (not-true ok t)
-
-  some-of : not ok ≡ false → o ≡ some a
-  some-of t = sym e ∙ ap (λ (b : Bool). optional b a) (not-false ok t)
+-- a transfer that passes nothing on
+moves : (s places : List ℕ) (m : Frame) (T : Transfer) (r : Acted) → argumentsOf (some T) ≡ []
+    → ((P : Program) → Places s P places → (out : List ℤ) → Is s m out r (transfer P m T)) → Moves s places m T r
+moves s places m T r e h = record { is = λ out. record { is = λ P p. rw e (passes-none s m out r (h P p out)) } }
 
 -- stmt, if
-module _ (s places : List ℕ) (f x : ℕ) (v : Evaluated) where
-  pub valued-stuck : (statement : Bool) (r : Acted) → not (v .ok) ≡ true → r ≡ jam → Rule.Valued statement s places f x v r
-  unfolding stmt if by acts
-  valued-stuck true r t h = λ m e q l d out. refused s m out r h (rw (none-of (v .ok) (v .value) q t))
-  valued-stuck false r t h = λ P p m g e q b c w out. refused s m out r h (rw (none-of (v .ok) (v .value) q t))
+module _ (statement : Bool) (s places : List ℕ) (m : Frame) (x at : ℕ) (v : Evaluated) where
+  pub valued-stuck : (r : Acted) → v ≡ Unbound → r ≡ jam → Valued statement s places m x at v r
+  unfolding transfer argumentsOf stmt if by acts
+  valued-stuck r t h =
+      record {
+        stmt = λ e b l d out. refused s m out r h (rw (none-is v _ e t));
+        if = λ e b. moves s places m (ifAt s at) r refl (λ P p out. refused s m out r h (rw (none-is v _ e t)));
+      }
 
-  pub valued-stmt : (statement : Bool) → statement ≡ true → not (v .ok) ≡ false → SFits w32 (v .value)
-      → Rule.Valued statement s places f x v (record { does = Bind; number = x; block = 0; count = 0; value = toZ w32 (ofZ w32 (v .value)); parameters = 0 })
-  unfolding stmt by
-  valued-stmt false z t g = absurd (true≢false (sym z))
-  valued-stmt true z t g =
-      λ m e q l d out.
-      record { act = rw (toZ-ofZ g) (sym (is m e (some-of (v .ok) (v .value) q t))); sound = (l, d) }
-    where
-      is : (m : Frame) (e : Expression) → eval m e ≡ some (v .value)
-          → stmt m (record { target = x; source = e }) ≡ Rules.Act.stay No.stmt (goTo (bind m x (v .value)) (m .block) (m .done + 1))
-      is m e y = rw y
+  module _ {w : ℤ} (t : v ≡ Value w) (g : SFits w32 w) where
+    pub valued-stmt : statement ≡ true
+        → Valued statement s places m x at v
+        (record { does = Bind; number = x; block = 0; count = 0; value = toZ w32 (ofZ w32 w); parameters = 0 })
+    unfolding stmt by
+    valued-stmt b =
+        record {
+          stmt = λ e b l d out. record { act = rw (toZ-ofZ g) (sym (rw (value-is v _ e t))); sound = (l, d) };
+          if = λ e f. absurd (true≢false (sym b ∙ f));
+        }
 
-  pub valued-if : (statement : Bool) (r : Acted) {b j c : ℕ} → statement ≡ false → not (v .ok) ≡ false → SFits w32 (v .value)
-      → b ≡ byteAt s (v .end) → j ≡ past (v .end) 1 → c ≡ byteAt s j → Rule.Branch s places f b c (toZ w32 (ofZ w32 (v .value))) r
-      → Rule.Valued statement s places f x v r
-  unfolding if acts
-  valued-if true r z t g e₁ e₂ e₃ d = absurd (true≢false z)
-  valued-if false r z t g e₁ e₂ e₃ d =
-      λ P p m h e q b c w out.
-      let (w₁, w₂) = w (not-false (v .ok) t) in
-      let y₁ = w₁ ∙ sym e₁ in
-      let y₂ = w₂ ∙ ap (byteAt s) (sym e₂) ∙ sym e₃ in
-      is-to s m out r (d P p m h out) (sym (rw (some-of (v .ok) (v .value) q t, y₁, y₂, toZ-ofZ g)))
+    pub valued-if : (r : Acted) {i b j c : ℕ} → statement ≡ false → i ≡ expressionEnd s at → b ≡ byteAt s i → j ≡ past i 1 → c ≡ byteAt s j
+        → Branches s places m b c (toZ w32 (ofZ w32 w)) r → Valued statement s places m x at v r
+    unfolding transfer argumentsOf if acts
+    valued-if r {i} {b} {j} {c} f e₂ e₃ e₄ e₅ d =
+        let y₁ : byteAt s (expressionEnd s at) ≡ b = rw (← e₂) (sym e₃) in
+        let y₂ : byteAt s (past (expressionEnd s at) 1) ≡ c = rw (← e₂, ← e₄) (sym e₅) in
+        record {
+          stmt = λ e b l d out. absurd (true≢false (sym b ∙ f));
+          if = λ e _.
+              moves s places m (ifAt s at) r refl
+              (λ P p out. is-to s m out r (d .is P p out) (sym (rw (value-is v _ e t, y₁, y₂, toZ-ofZ g))));
+        }
 
 -- return
 pub no-calls : (xs : List ℕ) → length xs ≡ 0 → equal xs [] ≡ true
@@ -203,56 +223,68 @@ unfolding equal
 some-calls [] e = absurd (e refl)
 some-calls (x ∷ xs) e = refl
 
-module _ (s : List ℕ) (m : Frame) (at : ℕ) (out₀ out : List ℤ) (r : Acted) (ok : Bool) (e₁ : Looks m s at out₀ ok out) where
-  pub return-unbound : not ok ≡ true → r ≡ jam → Rule.Return s m at out₀ r out
-  unfolding return acts
-  return-unbound t h = record { is = refused s m out r h (rw (looked-none s at ok out _ (e₁ .is) t)); left = e₁ .left }
+module _ (s places : List ℕ) (m : Frame) (at : ℕ) (out₀ out : List ℤ) (r : Acted) (ok : Bool) (e₁ : Looks m s at out₀ ok out) where
+  returning : ((P : Program) → Is s m out r (return m (argumentsAt s at))) → Transfers s places m (returnAt s at) out₀ r out
+  unfolding transfer argumentsOf
+  returning h = record { is = λ P p. record { is = h P; left = e₁ .left } }
 
-  pub return-open : {n : ℕ} → not ok ≡ false → n ≡ length (m .calls) → (n ≡ 0 → ⊥) → r ≡ jam → Rule.Return s m at out₀ r out
+  pub return-unbound : not ok ≡ true → r ≡ jam → Transfers s places m (returnAt s at) out₀ r out
+  unfolding return acts
+  return-unbound t h = returning (λ P. refused s m out r h (rw (looked-none s at ok out _ (e₁ .is) t)))
+
+  pub return-open : {n : ℕ} → not ok ≡ false → n ≡ length (m .calls) → (n ≡ 0 → ⊥) → r ≡ jam
+      → Transfers s places m (returnAt s at) out₀ r out
   unfolding return acts when
   return-open t e z h =
-      record {
-        is = refused s m out r h (rw (looked-some s at ok out _ (e₁ .is) t, some-calls (m .calls) (λ q. z (e ∙ q))));
-        left = e₁ .left;
-      }
+      returning λ P.
+      refused s m out r h (rw (looked-some s at ok out _ (e₁ .is) t, some-calls (m .calls) (λ q. z (e ∙ q))))
 
   pub return-goes : {n c : ℕ} → not ok ≡ false → n ≡ length (m .calls) → n ≡ 0 → c ≡ countAt s at → r ≡ acting Pop 0 0 c
-      → Rule.Return s m at out₀ r out
+      → Transfers s places m (returnAt s at) out₀ r out
   unfolding return acts when
   return-goes t e z d h =
-      record {
-        is =
-            rw h
-            (record {
-              act = sym (rw (looked-some s at ok out _ (e₁ .is) t, no-calls (m .calls) (sym e ∙ z), ← d));
-              sound = count-bound s at d;
-            });
-        left = e₁ .left;
-      }
+      returning λ P.
+      rw h
+      (record {
+        act = sym (rw (looked-some s at ok out _ (e₁ .is) t, no-calls (m .calls) (sym e ∙ z), ← d));
+        sound = count-bound s at d;
+      })
 
 -- spork
-module _ (s places : List ℕ) (m : Frame) (b π : ℕ) (r : Acted) {f : ℕ} (h : f ≡ m .function) where
-  spork-is : (P : Program) → spork P m b π ≡ by No.spork (Frames._>>=_ (spawnIn (getElem? P f) π) (λ S. when (ltb (length (m .calls)) mostCalls) (enter P (deque m (m .calls ++ (π ∷ [])) (m .promoted)) b [])))
-  unfolding spork functionOf
-  spork-is P = rw h (ap (by No.spork) (spawn-then (getElem? P (m .function)) π _))
+module _ (s places : List ℕ) (m : Frame) (at : ℕ) (r : Acted) (place : Place) {f j π : ℕ} (h : f ≡ m .function) (e₁ : j ≡ past at 1)
+    (e₂ : π ≡ byteAt s j) (d : FindsSpawn places f π place) where
+  spork-is : (P : Program)
+      → transfer P m (sporkAt s at)
+      ≡ by No.spork
+      (Frames._>>=_ (spawnIn (getElem? P f) π)
+      (λ S. when (ltb (length (m .calls)) mostCalls) (enter P (deque m (m .calls ++ (π ∷ [])) (m .promoted)) (byteAt s at) [])))
+  unfolding transfer spork functionOf
+  spork-is P = rw (← e₁, ← e₂, h) (ap (by No.spork) (spawn-then (getElem? P (m .function)) π _))
 
-  pub spork-missing : FindsSpawn places f π Nowhere → r ≡ jam → Rule.Spork s places m b π r
-  unfolding by
-  spork-missing d e P p out = refused s m out r e (spork-is P ∙ rw (d s P p))
+  pub spork-missing : place ≡ Nowhere → r ≡ jam → Moves s places m (sporkAt s at) r
+  unfolding argumentsOf by
+  spork-missing w e =
+      moves s places m (sporkAt s at) r refl
+      (λ P p out. let c = subst (FindsSpawn places f π) w d s P p in refused s m out r e (spork-is P ∙ rw c))
 
-  pub spork-full : (at : ℕ) {n : ℕ} → FindsSpawn places f π (At at) → n ≡ length (m .calls) → mostCalls ≤ n → r ≡ jam → Rule.Spork s places m b π r
-  unfolding by when
-  spork-full at {n} d z l e P p out =
-      let (S, q, _) = d s P p in
-      refused s m out r e (spork-is P ∙ rw (q, ← z, le-ltb n mostCalls l))
+  module _ (i : ℕ) (w : place ≡ At i) {n : ℕ} (z : n ≡ length (m .calls)) where
+    pub spork-full : mostCalls ≤ n → r ≡ jam → Moves s places m (sporkAt s at) r
+    unfolding argumentsOf by when
+    spork-full l e =
+        moves s places m (sporkAt s at) r refl
+        (λ P p out.
+        let (S, q, _) = subst (FindsSpawn places f π) w d s P p in
+        refused s m out r e (spork-is P ∙ rw (q, ← z, le-ltb n mostCalls l)))
 
-  pub spork-goes : (at : ℕ) {n : ℕ} → FindsSpawn places f π (At at) → n ≡ length (m .calls) → n < mostCalls → Enters s places f b 0 Open π r → Rule.Spork s places m b π r
-  unfolding when deque
-  spork-goes at {n} d z l e P p out =
-      let (S, q, _) = d s P p in
-      is-to s m out r
-      (moved s m out r P Open No.spork f b π (deque m (m .calls ++ (π ∷ [])) (m .promoted)) (λ a e. rw e) (rw (← z) l) (sym h) (e P p))
-      (sym (spork-is P ∙ rw (q, ← z, lt-ltb n mostCalls l)))
+    pub spork-goes : {b : ℕ} → n < mostCalls → b ≡ byteAt s at → Enters s places f b 0 Open π r → Moves s places m (sporkAt s at) r
+    unfolding argumentsOf when deque
+    spork-goes {b} l e₃ e =
+        moves s places m (sporkAt s at) r refl
+        (λ P p out.
+        let (S, q, _) = subst (FindsSpawn places f π) w d s P p in
+        is-to s m out r
+        (moved s m out r P Open No.spork f b π (deque m (m .calls ++ (π ∷ [])) (m .promoted)) (λ a e. rw e) (rw (← z) l) (sym h) (e P p))
+        (sym (spork-is P ∙ rw (q, ← z, lt-ltb n mostCalls l, ← e₃))))
 
 -- spoin
 unsnoc-front : (x : ℕ) (xs : List ℕ) → (I : Snoc ℕ) × (unsnoc (x ∷ xs) ≡ some I) × (I .front ≡ take (length xs) (x ∷ xs))
@@ -269,33 +301,39 @@ unsnoc-take (x ∷ xs) z =
     let e : length xs ≡ length (x ∷ xs) - 1 = omega arith in
     (I, p, q ∙ ap (λ (j : ℕ). take j (x ∷ xs)) e)
 
-module _ (s places : List ℕ) (m : Frame) (b c : ℕ) (r : Acted) {n : ℕ} (e : n ≡ length (m .calls)) where
-  pub spoin-none : n ≡ 0 → r ≡ jam → Rule.Spoin s places m b c r
-  unfolding spoin acts unsnoc
-  spoin-none z h P p out = refused s m out r h (go (m .calls) (sym e ∙ z) refl)
+module _ (s places : List ℕ) (m : Frame) (at : ℕ) (r : Acted) {n : ℕ} (e : n ≡ length (m .calls)) where
+  pub spoin-none : n ≡ 0 → r ≡ jam → Moves s places m (spoinAt s at) r
+  unfolding transfer argumentsOf spoin acts unsnoc
+  spoin-none z h = moves s places m (spoinAt s at) r refl (λ P p out. refused s m out r h (go P (m .calls) (sym e ∙ z) refl))
     where
-      go : (xs : List ℕ) → length xs ≡ 0 → m .calls ≡ xs → spoin P m b c ≡ Rules.Act.refuse No.stuck
-      go [] l q = rw q
-      go (x ∷ xs) l q = absurd (omega arith)
+      go : (P : Program) (xs : List ℕ) → length xs ≡ 0 → m .calls ≡ xs → transfer P m (spoinAt s at) ≡ Rules.Act.refuse No.stuck
+      go P [] l q = rw q
+      go P (x ∷ xs) l q = absurd (omega arith)
 
   module _ (z : n ≡ 0 → ⊥) {q : ℕ} (d : q ≡ m .promoted) where
-    spoin-is : (P : Program) → spoin P m b c ≡ closing P m b c (take (length (m .calls) - 1) (m .calls)) (ltb q n)
-    unfolding spoin acts
+    spoin-is : (P : Program)
+        → transfer P m (spoinAt s at) ≡ closing P m (byteAt s at) (byteAt s (past at 1)) (take (length (m .calls) - 1) (m .calls)) (ltb q n)
+    unfolding transfer spoin acts
     spoin-is P =
         let (I, p, w) = unsnoc-take (m .calls) (λ y. z (e ∙ y)) in
         rw (p, w, ← d, ← e)
 
-    pub spoin-unpromoted : {f : ℕ} → q < n → f ≡ m .function → Enters s places f b 0 Close 0 r → Rule.Spoin s places m b c r
-    unfolding closing deque
-    spoin-unpromoted {f} l h g P p out =
+    pub spoin-unpromoted : {f b : ℕ} → q < n → f ≡ m .function → b ≡ byteAt s at → Enters s places f b 0 Close 0 r
+        → Moves s places m (spoinAt s at) r
+    unfolding argumentsOf closing deque
+    spoin-unpromoted {f} {b} l h e₁ g =
+        moves s places m (spoinAt s at) r refl
+        (λ P p out.
         is-to s m out r
         (moved s m out r P Close No.unpr f b 0 (closed m (m .promoted)) (λ a e. refl) (omega arith) (sym h) (g P p))
-        (sym (spoin-is P ∙ rw (lt-ltb q n l)))
+        (sym (spoin-is P ∙ rw (lt-ltb q n l, ← e₁))))
 
-    pub spoin-promoted : n ≤ q → r ≡ acting Join c 0 0 → Rule.Spoin s places m b c r
-    unfolding closing
-    spoin-promoted l h P p out =
-        rw h (record { act = sym (spoin-is P ∙ rw (le-ltb q n l)); sound = (omega arith, omega arith) })
+    pub spoin-promoted : {j c : ℕ} → n ≤ q → j ≡ past at 1 → c ≡ byteAt s j → r ≡ acting Join c 0 0 → Moves s places m (spoinAt s at) r
+    unfolding argumentsOf closing
+    spoin-promoted l e₁ e₂ h =
+        moves s places m (spoinAt s at) r refl
+        (λ P p out.
+        rw h (record { act = sym (spoin-is P ∙ rw (le-ltb q n l, ← e₁, ← e₂)); sound = (omega arith, omega arith) }))
 
 -- a transfer, by its kind
 module _ (s : List ℕ) (at : ℕ) {kind f : ℕ} (e₁ : kind ≡ byteAt s at) (e₂ : f ≡ past at 1) where
@@ -303,52 +341,29 @@ module _ (s : List ℕ) (at : ℕ) {kind f : ℕ} (e₁ : kind ≡ byteAt s at) 
   unfolding transferAt
   kind-is n q = let z : byteAt s at ≡ n = sym e₁ ∙ q in rw (z, e₂)
 
-  module _ (places : List ℕ) (m : Frame) (out₀ out : List ℤ) (r : Acted) where
-    by-kind : (P : Program) (n : ℕ) → kind ≡ n
-        → Passes s m (argumentsOf (some (transferOf n s f))) out₀ r out (transfer P m (transferOf n s f))
-        → Passes s m (argumentsOf (some (transferAt s at))) out₀ r out (transfer P m (transferAt s at))
-    by-kind P n q h = subst⁻¹ (λ (T : Transfer). Passes s m (argumentsOf (some T)) out₀ r out (transfer P m T)) (kind-is n q) h
+  pub by-kind : (places : List ℕ) (m : Frame) (out₀ out : List ℤ) (r : Acted) (n : ℕ) → kind ≡ n
+      → Transfers s places m (transferOf n s f) out₀ r out → Transfers s places m (transferAt s at) out₀ r out
+  by-kind places m out₀ out r n q h = subst⁻¹ (λ (T : Transfer). Transfers s places m T out₀ r out) (kind-is n q) h
 
-    pub transfer-goto : kind ≡ 0 → Rule.Goto s places m f out₀ r out → Rule.Transfer s places m at out₀ r out
-    unfolding transferOf transfer argumentsOf
-    transfer-goto q h o P p = by-kind P 0 q (h P p)
+  -- an if is told before; what is none of the others is a spoin
+  pub transfer-by : (places : List ℕ) (m : Frame) (out₀ out : List ℤ) (r : Acted) (n : ℕ) → kind ≡ n
+      → Transfers s places m (transferOf n s f) out₀ r out → NoIf s places m at out₀ r out
+  transfer-by places m out₀ out r n q h = record { is = λ o. by-kind places m out₀ out r n q h }
 
-    pub transfer-call : {g l b : ℕ} → kind ≡ 2 → g ≡ past f 1 → l ≡ listEnd s g → b ≡ byteAt s l → Rule.Call s places m f b out₀ r out
-        → Rule.Transfer s places m at out₀ r out
-    unfolding transferOf transfer argumentsOf
-    transfer-call {g} {l} {b} q e₃ e₄ e₅ h o P p =
-        let e : b ≡ byteAt s (listEnd s (past f 1)) = e₅ ∙ ap (byteAt s) (e₄ ∙ ap (listEnd s) e₃) in
-        by-kind P 2 q (subst (λ (i : ℕ). Rule.Call s places m f i out₀ r out) e h P p)
-
-    pub transfer-return : kind ≡ 3 → Rule.Return s m f out₀ r out → Rule.Transfer s places m at out₀ r out
-    unfolding transferOf transfer argumentsOf
-    transfer-return q h o P p = by-kind P 3 q h
-
-  module _ (places : List ℕ) (m : Frame) (out : List ℤ) (r : Acted) where
-    pub transfer-ends : {g b c : ℕ} → (kind ≡ 0 → ⊥) → (kind ≡ 2 → ⊥) → (kind ≡ 3 → ⊥) → g ≡ past f 1 → b ≡ byteAt s f → c ≡ byteAt s g
-        → Rule.Ends s places m kind b c r → Rule.Transfer s places m at out r out
-    unfolding transferOf transfer argumentsOf
-    transfer-ends {g} {b} {c} z₀ z₂ z₃ e₃ e₄ e₅ h o P p =
-        by-kind places m out out r P kind refl (go kind z₀ (λ q. o (sym e₁ ∙ q)) z₂ z₃ (rw (e₄, e₅, e₃) at (h P p out)))
-      where
-        go : (n : ℕ) → (n ≡ 0 → ⊥) → (n ≡ 1 → ⊥) → (n ≡ 2 → ⊥) → (n ≡ 3 → ⊥)
-            → Is s m out r (cond (eqb n 4) (spork P m (byteAt s f) (byteAt s (past f 1))) (spoin P m (byteAt s f) (byteAt s (past f 1))))
-            → Passes s m (argumentsOf (some (transferOf n s f))) out r out (transfer P m (transferOf n s f))
-        go zero a b c d i = absurd (a refl)
-        go (suc zero) a b c d i = absurd (b refl)
-        go (suc (suc zero)) a b c d i = absurd (c refl)
-        go (suc (suc (suc zero))) a b c d i = absurd (d refl)
-        go (suc (suc (suc (suc zero)))) a b c d i = passes-none s m out r i
-        go (suc (suc (suc (suc (suc n))))) a b c d i =
-            let e : eqb (suc (suc (suc (suc (suc n))))) 4 ≡ false = ne-eqb (suc (suc (suc (suc (suc n))))) 4 (λ q. absurd (omega arith)) in
-            passes-none s m out r (rw e at i)
-
-module _ (s places : List ℕ) (m : Frame) (kind b c : ℕ) (r : Acted) where
-  pub ends-spork : kind ≡ 4 → Rule.Spork s places m b c r → Rule.Ends s places m kind b c r
-  ends-spork q h P p out = rw (eq-eqb kind 4 q) (h P p out)
-
-  pub ends-spoin : (kind ≡ 4 → ⊥) → Rule.Spoin s places m b c r → Rule.Ends s places m kind b c r
-  ends-spoin q h P p out = rw (ne-eqb kind 4 q) (h P p out)
+  pub transfer-last : (places : List ℕ) (m : Frame) (out : List ℤ) (r : Acted) → (kind ≡ 0 → ⊥) → (kind ≡ 2 → ⊥) → (kind ≡ 3 → ⊥)
+      → (kind ≡ 4 → ⊥) → Moves s places m (spoinAt s f) r → NoIf s places m at out r out
+  unfolding transferOf
+  transfer-last places m out r z₀ z₂ z₃ z₄ h =
+      record { is = λ o. by-kind places m out out r kind refl (go kind z₀ (λ q. o (sym e₁ ∙ q)) z₂ z₃ z₄ (h .is out)) }
+    where
+      go : (n : ℕ) → (n ≡ 0 → ⊥) → (n ≡ 1 → ⊥) → (n ≡ 2 → ⊥) → (n ≡ 3 → ⊥) → (n ≡ 4 → ⊥)
+          → Transfers s places m (spoinAt s f) out r out → Transfers s places m (transferOf n s f) out r out
+      go zero a b c d e i = absurd (a refl)
+      go (suc zero) a b c d e i = absurd (b refl)
+      go (suc (suc zero)) a b c d e i = absurd (c refl)
+      go (suc (suc (suc zero))) a b c d e i = absurd (d refl)
+      go (suc (suc (suc (suc zero)))) a b c d e i = absurd (e refl)
+      go (suc (suc (suc (suc (suc n))))) a b c d e i = i
 
 -- where what comes next stands
 module _ (s : List ℕ) (at : ℕ) {done n r : ℕ} where
@@ -359,89 +374,94 @@ module _ (s : List ℕ) (at : ℕ) {done n r : ℕ} where
   next-behind l e = let y : min done n ≡ n = min-eq-right l in rw y e
 
 -- a block whose statements are all done: its transfer comes next
-module _ {s : List ℕ} {at : ℕ} (m : Frame) (B : Block) (d : Codes s at B) (l : byteAt s at ≤ m .done) where
-  code-done : getElem? (B .code) (m .done) ≡ none
-  code-done = past-at (B .code) (m .done) (omega (arith, d .count))
+module _ (s : List ℕ) (at : ℕ) (m : Frame) (H : Head) (l : byteAt s at ≤ m .done) where
+  code-done : getElem? (codeAt s at) (m .done) ≡ none
+  unfolding codeAt
+  code-done = past-at (codeAt s at) (m .done) (omega (arith, statements-length s (past at 1) (byteAt s at)))
 
-  pub next-transfer : (i : ℕ) → i ≡ statementsEnd s (past at 1) (byteAt s at) → nextIn m B ≡ some (transferAt s i)
+  pub next-transfer : (i : ℕ) → i ≡ codeEnd s at → nextIn m (coded H s at) ≡ some (transferAt s i)
   unfolding nextIn
-  next-transfer i e = rw code-done (ap some (d .transfer ∙ rw e))
+  next-transfer i e = rw (code-done, e)
 
-  pub comes-transfer : (i : ℕ) → i ≡ statementsEnd s (past at 1) (byteAt s at) → (P : Program)
-      → coming P m B (getElem? (B .code) (m .done)) ≡ transfer P m (transferAt s i)
+  pub comes-transfer : (i : ℕ) → i ≡ codeEnd s at → (P : Program)
+      → coming P m (coded H s at) (getElem? (codeAt s at) (m .done)) ≡ transfer P m (transferAt s i)
   unfolding coming
-  comes-transfer i e P = rw code-done (ap (transfer P m) (d .transfer ∙ rw e))
+  comes-transfer i e P = rw (code-done, e)
+
+-- a statement comes next
+pub next-is : (s : List ℕ) (at done : ℕ) → done < byteAt s at
+    → getElem? (codeAt s at) done ≡ some (statementAt s (statementsEnd s (past at 1) done))
+unfolding codeAt
+next-is s at done l = statements-item s (past at 1) (byteAt s at) done l
 
 -- what comes next, at i
 module _ (s places : List ℕ) (m : Frame) (at : ℕ) (r : Acted) {n f done i x : ℕ} (e₁ : n ≡ byteAt s at) (e₂ : f ≡ past at 1)
     (e₃ : done ≡ m .done) (e₄ : i ≡ statementsEnd s f (min done n)) (e₅ : x ≡ byteAt s i) where
-  next-statement : (B : Block) → Codes s at B → done < n → getElem? (B .code) (m .done) ≡ some (statementAt s i)
-  next-statement B d l =
+  next-statement : done < n → getElem? (codeAt s at) (m .done) ≡ some (statementAt s i)
+  next-statement l =
       let y : min done n ≡ done = min-eq-left (omega arith) in
       let q : statementsEnd s (past at 1) (m .done) ≡ i = rw (← e₂, ← e₃) (sym (e₄ ∙ ap (statementsEnd s f) y)) in
-      d .items (m .done) (omega (arith, d .count)) ∙ rw q
+      next-is s at (m .done) (omega arith) ∙ rw q
 
-  passes-transfer : (out₀ out : List ℤ) (P : Program) (B : Block) → Codes s at B → n ≤ done
-      → Passes s m (argumentsOf (some (transferAt s i))) out₀ r out (transfer P m (transferAt s i))
-      → Passes s m (argumentsOf (nextIn m B)) out₀ r out (coming P m B (getElem? (B .code) (m .done)))
-  passes-transfer out₀ out P B d l h =
+  at-transfer : (out₀ out : List ℤ) → n ≤ done → Transfers s places m (transferAt s i) out₀ r out → Comes s places m at out₀ r out
+  unfolding codeEnd
+  at-transfer out₀ out l h =
       let y : min done n ≡ n = min-eq-right l in
-      let q : i ≡ statementsEnd s (past at 1) (byteAt s at) = rw (← e₁, ← e₂) (e₄ ∙ ap (statementsEnd s f) y) in
+      let q : i ≡ codeEnd s at = rw (← e₁, ← e₂) (e₄ ∙ ap (statementsEnd s f) y) in
       let k : byteAt s at ≤ m .done = omega arith in
-      rw (next-transfer m B d k i q, comes-transfer m B d k i q P) h
+      record { is = λ P p H t. rw (next-transfer s at m H k i q, comes-transfer s at m H k i q P) (h .is P p) }
 
-  pub coming-transfer : (out₀ out : List ℤ) → ltb done n ≡ false → eqb x 1 ≡ false → Rule.Transfer s places m i out₀ r out
-      → Rule.Coming s places m at out₀ r out
-  coming-transfer out₀ out l o h P p B d t =
-      passes-transfer out₀ out P B d (ltb-false done n l) (h (λ q. eqb-false x 1 o (e₅ ∙ q)) P p)
+  pub coming-transfer : (out₀ out : List ℤ) → ltb done n ≡ false → eqb x 1 ≡ false → NoIf s places m i out₀ r out
+      → Comes s places m at out₀ r out
+  coming-transfer out₀ out l o h = at-transfer out₀ out (ltb-false done n l) (h .is (λ q. eqb-false x 1 o (e₅ ∙ q)))
 
   -- its expression was evaluated
-  module _ (out : List ℤ) {j g : ℕ} (v : Evaluated) (e₆ : j ≡ past i 1) (e₇ : Evaluates m s j v) (h : g ≡ m .function) where
-    came : optional (v .ok) (v .value) ≡ eval m (expressionAt s (past i 1))
-    came = evaluated-is v _ _ e₇ ∙ ap (λ (k : ℕ). eval m (expressionAt s k)) e₆
-
-    pub coming-stmt : n < 256 → ltb done n ≡ true → Rule.Valued (ltb done n) s places g x v r → Rule.Coming s places m at out r out
+  module _ (out : List ℤ) {j : ℕ} (v : Evaluated) (e₆ : j ≡ past i 1) (e₇ : v ≡ evaluatedAs (eval m (expressionAt s j)))
+      (h : Valued (ltb done n) s places m x j v r) where
+    pub coming-stmt : n < 256 → ltb done n ≡ true → Comes s places m at out r out
     unfolding coming nextIn argumentsOf statementAt
-    coming-stmt z l h₁ P p B d t =
+    coming-stmt z l =
         let o = ltb-true done n l in
-        let a = next-statement B d o in
-        let w : x < temporaries = rw e₅ (each-at InStatement (B .code) (m .done) t a .target) in
-        let u : Rule.Valued true s places g x v r = subst (λ (q : Bool). Rule.Valued q s places g x v r) l h₁ in
-        rw (a, ← e₅) (passes-none s m out r (u m (expressionAt s (past i 1)) came w (omega arith) out))
+        let a = next-statement o in
+        record {
+          is = λ P p H t.
+              let w : x < temporaries = rw e₅ (each-at InStatement (codeAt s at) (m .done) t a .target) in
+              rw (a, ← e₅, ← e₆) (passes-none s m out r (h .stmt e₇ l w (omega arith) out));
+        }
 
-    pub coming-if : ltb done n ≡ false → eqb x 1 ≡ true → Rule.Valued (ltb done n) s places g x v r → Rule.Coming s places m at out r out
-    unfolding transfer transferOf argumentsOf
-    coming-if l o h₁ P p B d t =
-        let at : v .ok ≡ true → v .end ≡ expressionEnd s (past i 1) = λ y. evaluated-end v _ _ e₇ y ∙ ap (expressionEnd s) e₆ in
-        let u : Rule.Valued false s places g x v r = subst (λ (q : Bool). Rule.Valued q s places g x v r) l h₁ in
-        passes-transfer out out P B d (ltb-false done n l)
-        (by-kind s i e₅ refl places m out out r P 1 (eqb-true x 1 o)
-        (passes-none s m out r
-        (u P p m (sym h) (expressionAt s (past i 1)) came _ _
-        (λ y. (ap (byteAt s) (sym (at y)), ap (λ (k : ℕ). byteAt s (past k 1)) (sym (at y)))) out)))
+    pub coming-if : ltb done n ≡ false → eqb x 1 ≡ true → Comes s places m at out r out
+    unfolding transferOf
+    coming-if l o =
+        at-transfer out out (ltb-false done n l) (by-kind s i e₅ e₆ places m out out r 1 (eqb-true x 1 o) (h .if e₇ l .is out))
 
--- the block of a frame
-module _ (s places : List ℕ) (m : Frame) {f b : ℕ} (h : f ≡ m .function) (g : b ≡ m .block) (P : Program) (p : Places s P places) where
-  pub block-none : FindsBlock places f b Nowhere → blockOf P m (m .block) ≡ none
+-- the block of a frame: the code behind its head
+module _ (s places : List ℕ) (m : Frame) (place : Place) {f b : ℕ} (h : f ≡ m .function) (g : b ≡ m .block)
+    (d : FindsCode places f b place) (P : Program) (p : Places s P places) where
+  pub block-none : place ≡ Nowhere → blockOf P m (m .block) ≡ none
   unfolding blockOf functionOf
-  block-none d = rw (← h, ← g) (d s P p)
+  block-none w = rw (← h, ← g) (subst (FindsCode places f b) w d s P p)
 
-  pub block-some : (at : ℕ) (d : FindsBlock places f b (At at)) → blockOf P m (m .block) ≡ some (d s P p .0)
+  pub block-some : (at : ℕ) → place ≡ At at
+      → (H : Head) × (blockOf P m (m .block) ≡ some (coded H s at)) × Each InStatement (codeAt s at)
   unfolding blockOf functionOf
-  block-some at d = rw (← h, ← g) (d s P p .1)
+  block-some at w =
+      let (B, q, t) = subst (FindsCode places f b) w d s P p in
+      let is : B ≡ coded (headAt s (t .at)) s at = code-is s (t .at) B (t .block .behind) at (p .short) (t .block .is) (t .head) in (
+        headAt s (t .at),
+        rw (← h, ← g) (q ∙ ap some is),
+        subst (λ (C : Block). Each InStatement (C .code)) is
+            (Guarantees.block .gives s (t .at) B (t .block .behind) (t .block .is) .code),
+      )
 
 -- what a frame does next
-module _ (s places : List ℕ) (m : Frame) (r : Acted) {f b : ℕ} (h : f ≡ m .function) (g : b ≡ m .block) where
-  pub acts-nowhere : (out : List ℤ) → FindsBlock places f b Nowhere → r ≡ jam → Rule.Acts s places m out r out
+module _ (s places : List ℕ) (m : Frame) (r : Acted) (place : Place) {f b : ℕ} (h : f ≡ m .function) (g : b ≡ m .block)
+    (d : FindsCode places f b place) where
+  pub acts-nowhere : (out : List ℤ) → place ≡ Nowhere → r ≡ jam → Acts s places m out r out
   unfolding act acts nextOf argumentsOf
-  acts-nowhere out d e P p = rw (block-none s places m h g P p d) (passes-none s m out r (refused s m out r e refl))
+  acts-nowhere out w e P p = rw (block-none s places m place h g d P p w) (passes-none s m out r (refused s m out r e refl))
 
-  pub acts-coming : (out₀ out : List ℤ) (at : ℕ) {i : ℕ} → FindsBlock places f b (At at) → i ≡ headEnd s at
-      → Rule.Coming s places m i out₀ r out
-      → Rule.Acts s places m out₀ r out
+  pub acts-coming : (out₀ out : List ℤ) (at : ℕ) → place ≡ At at → Comes s places m at out₀ r out → Acts s places m out₀ r out
   unfolding act acts nextOf
-  acts-coming out₀ out at {i} d e k P p =
-      let (B, q, t) = d s P p in
-      let c = block-codes s at B (t .behind) (p .short) (t .is) .1 in
-      let u = Guarantees.block .gives s at B (t .behind) (t .is) .code in
-      rw (block-some s places m h g P p at d) (k P p B (subst (λ (j : ℕ). Codes s j B) (sym e) c) u)
+  acts-coming out₀ out at w k P p =
+      let (H, q, u) = block-some s places m place h g d P p at w in
+      rw q (k .is P p H u)

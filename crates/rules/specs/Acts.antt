@@ -5,23 +5,21 @@ use mathlib.Core.Path.{_≡_}
 use mathlib.Core.Bool.{Bool, true, false, cond}
 use mathlib.Core.Option.{Option, none, some}
 use mathlib.Core.List.{List, [], _∷_, _++_}
-use lib.Dec.{eqb}
 use lib.IntN.{ℤ, pos}
 use lib.ListN.{length, take, getElem?}
 use Rattle.model.specs.Numbers as No
 use Rattle.model.specs.Lists.{Each, equal}
 use Rattle.model.specs.Limits.{InStatement}
 use Rattle.model.specs.Values.{same}
-use Rattle.model.specs.Syntax as Syntax
-use Rattle.model.specs.Syntax.{Expression, Statement, SpawnCall, Block, Program}
+use Rattle.model.specs.Syntax.{Statement, Transfer, Head, SpawnCall, Block, Program}
 use Rattle.model.specs.Pool.{Frame, temporaries, mostCalls, begin, blockOf}
 use Rattle.model.specs.Frames.{_>>=_, eval, goTo, bind, bindAll, deque, callee, enter}
 use Rattle.model.specs.Rules as Rules
 use Rattle.places.specs.Places.{Places, spawnIn}
-use Rattle.bytes.specs.Bytes.{byteAt, past}
+use Rattle.code.specs.Bytes.{byteAt}
 use Rattle.eval.specs.declared.Evaluated.{Evaluated}
-use Rattle.eval.specs.Given.{optional, filled}
-use Rattle.eval.specs.Code.{most, countAt, argumentsAt, transferAt, Codes}
+use Rattle.eval.specs.Given.{optional, evaluatedAs, filled}
+use Rattle.code.specs.Code.{most, countAt, argumentsAt, expressionAt, ifAt, returnAt, transferAt, codeAt, coded}
 use Rattle.rules.specs.declared.Acted.{Acted}
 use Rattle.rules.specs.declared.Ended.{Ended}
 use Rattle.rules.specs.declared.Ended.the-variants.{Gives, Runs}
@@ -84,37 +82,37 @@ pub record Is (s : List ℕ) (m : Frame) (out : List ℤ) (r : Acted) (t : Rules
   pub sound : soundBy (r .does) s m r
 
 -- the transfer of block B, and of its own block, that comes next in the frame m: all statements are done
-abbrev pub transferBy : Block → Option Statement → Option Syntax.Transfer
+abbrev pub transferBy : Block → Option Statement → Option Transfer
 transferBy B (some s) = none
 transferBy B none = some (B .transfer)
 
-unfoldable pub nextIn : Frame → Block → Option Syntax.Transfer
+unfoldable pub nextIn : Frame → Block → Option Transfer
 nextIn m B = transferBy B (getElem? (B .code) (m .done))
 
-unfoldable pub nextOf : Program → Frame → Option Syntax.Transfer
+unfoldable pub nextOf : Program → Frame → Option Transfer
 nextOf P m = do
   B ← blockOf P m (m .block)
   nextIn m B
 
 -- the temporaries whose values are passed on: x̄ of goto b(x̄), call g(x̄) ▷ b and return(x̄)
-unfoldable pub argumentsOf : Option Syntax.Transfer → List ℕ
+unfoldable pub argumentsOf : Option Transfer → List ℕ
 argumentsOf none = []
-argumentsOf (some (Syntax.Transfer.goto b x̄)) = x̄
-argumentsOf (some (Syntax.Transfer.if e b c)) = []
-argumentsOf (some (Syntax.Transfer.call g x̄ b)) = x̄
-argumentsOf (some (Syntax.Transfer.return x̄)) = x̄
-argumentsOf (some (Syntax.Transfer.spork b π)) = []
-argumentsOf (some (Syntax.Transfer.spoin b c)) = []
+argumentsOf (some (Transfer.goto b x̄)) = x̄
+argumentsOf (some (Transfer.if e b c)) = []
+argumentsOf (some (Transfer.call g x̄ b)) = x̄
+argumentsOf (some (Transfer.return x̄)) = x̄
+argumentsOf (some (Transfer.spork b π)) = []
+argumentsOf (some (Transfer.spoin b c)) = []
 
 -- those that the frame m returns: x̄ of return(x̄) alone, with nothing open
-unfoldable pub returnsOf : Frame → Option Syntax.Transfer → List ℕ
+unfoldable pub returnsOf : Frame → Option Transfer → List ℕ
 returnsOf m none = []
-returnsOf m (some (Syntax.Transfer.goto b x̄)) = []
-returnsOf m (some (Syntax.Transfer.if e b c)) = []
-returnsOf m (some (Syntax.Transfer.call g x̄ b)) = []
-returnsOf m (some (Syntax.Transfer.return x̄)) = cond (equal (m .calls) []) x̄ []
-returnsOf m (some (Syntax.Transfer.spork b π)) = []
-returnsOf m (some (Syntax.Transfer.spoin b c)) = []
+returnsOf m (some (Transfer.goto b x̄)) = []
+returnsOf m (some (Transfer.if e b c)) = []
+returnsOf m (some (Transfer.call g x̄ b)) = []
+returnsOf m (some (Transfer.return x̄)) = cond (equal (m .calls) []) x̄ []
+returnsOf m (some (Transfer.spork b π)) = []
+returnsOf m (some (Transfer.spoin b c)) = []
 
 -- those of a spawn call g(x̄), if it is there
 unfoldable pub spawnsOf : Option SpawnCall → List ℕ
@@ -146,9 +144,8 @@ abbrev pub Enters : List ℕ → List ℕ → ℕ → ℕ → ℕ → Does → �
 Enters s places f b n d x r = (P : Program) → Places s P places → Entering s P f b n d x r
 
 -- function g is there and takes n values
-abbrev pub Takes : List ℕ → List ℕ → ℕ → ℕ → Bool → Type 0
-Takes s places g n r =
-    (P : Program) → Places s P places → (v̄ : List ℤ) → length v̄ ≡ n → callee P g v̄ ≡ optional r (begin g v̄)
+pub record Takes (s places : List ℕ) (g n : ℕ) (r : Bool) : Type 0 where
+  pub is : (P : Program) → Places s P places → (v̄ : List ℤ) → length v̄ ≡ n → callee P g v̄ ≡ optional r (begin g v̄)
 
 -- a spawned child's first frame, where the act is a call
 abbrev pub childBy : Does → Acted → List ℤ → Option Frame
@@ -171,59 +168,36 @@ pub record Child (P : Program) (m : Frame) (π : ℕ) (out : List ℤ) (r : Acte
 abbrev pub Spawns : List ℕ → List ℕ → Frame → ℕ → List ℤ → Acted → List ℤ → Type 0
 Spawns s places m π out r out′ = (P : Program) → Places s P places → Child P m π out r out′
 
--- the rules, with what they read in place and what they leave in the buffer
-abbrev pub Goto : List ℕ → List ℕ → Frame → ℕ → List ℤ → Acted → List ℤ → Type 0
-Goto s places m at out r out′ =
-    (P : Program) → Places s P places →
-    Passes s m (argumentsAt s (past at 1)) out r out′ (Rules.goto P m (byteAt s at) (argumentsAt s (past at 1)))
+-- the rules: r is what the frame m does at the transfer T, and what is passed on is left in the buffer
+pub record Transfers (s places : List ℕ) (m : Frame) (T : Transfer) (out : List ℤ) (r : Acted) (out′ : List ℤ) : Type 0 where
+  pub is : (P : Program) → Places s P places → Passes s m (argumentsOf (some T)) out r out′ (Rules.transfer P m T)
 
-abbrev pub Branch : List ℕ → List ℕ → ℕ → ℕ → ℕ → ℤ → Acted → Type 0
-Branch s places f b c v r =
-    (P : Program) → Places s P places → (m : Frame) → m .function ≡ f → (out : List ℤ) → Is s m out r (Rules.branch P m b c (same v (pos 0)))
+-- a return looks at no place
+abbrev pub Returns : List ℕ → Frame → ℕ → List ℤ → Acted → List ℤ → Type 0
+Returns s m at out r out′ = (places : List ℕ) → Transfers s places m (returnAt s at) out r out′
 
--- a statement of temporary x, or an if with the blocks b and c, whose expression came to v
-abbrev pub Valued : Bool → List ℕ → List ℕ → ℕ → ℕ → Evaluated → Acted → Type 0
-Valued true s places f x v r =
-    (m : Frame) (e : Expression) → optional (v .ok) (v .value) ≡ eval m e → x < temporaries → m .done < 255 → (out : List ℤ) →
-    Is s m out r (Rules.stmt m (record { target = x; source = e }))
-Valued false s places f x v r =
-    (P : Program) → Places s P places → (m : Frame) → m .function ≡ f → (e : Expression) → optional (v .ok) (v .value) ≡ eval m e →
-    (b c : ℕ) → (v .ok ≡ true → (b ≡ byteAt s (v .end)) × (c ≡ byteAt s (past (v .end) 1))) → (out : List ℤ) →
-    Is s m out r (Rules.if P m e b c)
+-- where nothing is passed on, whatever the buffer holds
+pub record Moves (s places : List ℕ) (m : Frame) (T : Transfer) (r : Acted) : Type 0 where
+  pub is : (out : List ℤ) → Transfers s places m T out r out
 
-abbrev pub Call : List ℕ → List ℕ → Frame → ℕ → ℕ → List ℤ → Acted → List ℤ → Type 0
-Call s places m at b out r out′ =
-    (P : Program) → Places s P places →
-    Passes s m (argumentsAt s (past at 1)) out r out′ (Rules.call P m (byteAt s at) (argumentsAt s (past at 1)) b)
+-- then and else: block b or block c, by the value
+pub record Branches (s places : List ℕ) (m : Frame) (b c : ℕ) (v : ℤ) (r : Acted) : Type 0 where
+  pub is : (P : Program) → Places s P places → (out : List ℤ) → Is s m out r (Rules.branch P m b c (same v (pos 0)))
 
-abbrev pub Return : List ℕ → Frame → ℕ → List ℤ → Acted → List ℤ → Type 0
-Return s m at out r out′ = Passes s m (argumentsAt s at) out r out′ (Rules.return m (argumentsAt s at))
+-- a statement of temporary x, or an if, whose expression at an offset came to v
+pub record Valued (statement : Bool) (s places : List ℕ) (m : Frame) (x at : ℕ) (v : Evaluated) (r : Acted) : Type 0 where
+  pub stmt : v ≡ evaluatedAs (eval m (expressionAt s at)) → statement ≡ true → x < temporaries → m .done < 255 → (out : List ℤ) →
+      Is s m out r (Rules.stmt m (record { target = x; source = expressionAt s at }))
+  pub if : v ≡ evaluatedAs (eval m (expressionAt s at)) → statement ≡ false → Moves s places m (ifAt s at) r
 
-abbrev pub Spork : List ℕ → List ℕ → Frame → ℕ → ℕ → Acted → Type 0
-Spork s places m b π r =
-    (P : Program) → Places s P places → (out : List ℤ) → Is s m out r (Rules.spork P m b π)
+-- the transfer at an offset, which is no if
+pub record NoIf (s places : List ℕ) (m : Frame) (at : ℕ) (out : List ℤ) (r : Acted) (out′ : List ℤ) : Type 0 where
+  pub is : (byteAt s at ≡ 1 → ⊥) → Transfers s places m (transferAt s at) out r out′
 
-abbrev pub Spoin : List ℕ → List ℕ → Frame → ℕ → ℕ → Acted → Type 0
-Spoin s places m b c r =
-    (P : Program) → Places s P places → (out : List ℤ) → Is s m out r (Rules.spoin P m b c)
-
--- a transfer that is no if
-abbrev pub Transfer : List ℕ → List ℕ → Frame → ℕ → List ℤ → Acted → List ℤ → Type 0
-Transfer s places m at out r out′ =
-    (byteAt s at ≡ 1 → ⊥) → (P : Program) → Places s P places →
-    Passes s m (argumentsOf (some (transferAt s at))) out r out′ (Rules.transfer P m (transferAt s at))
-
--- spork and spoin, by their kind
-abbrev pub Ends : List ℕ → List ℕ → Frame → ℕ → ℕ → ℕ → Acted → Type 0
-Ends s places m kind b c r =
-    (P : Program) → Places s P places → (out : List ℤ) →
-    Is s m out r (cond (eqb kind 4) (Rules.spork P m b c) (Rules.spoin P m b c))
-
--- what comes next in a block whose number of statements stands at an offset
-abbrev pub Coming : List ℕ → List ℕ → Frame → ℕ → List ℤ → Acted → List ℤ → Type 0
-Coming s places m at out r out′ =
-    (P : Program) → Places s P places → (B : Block) → Codes s at B → Each InStatement (B .code) →
-    Passes s m (argumentsOf (nextIn m B)) out r out′ (Rules.coming P m B (getElem? (B .code) (m .done)))
+-- what comes next by the code at an offset
+pub record Comes (s places : List ℕ) (m : Frame) (at : ℕ) (out : List ℤ) (r : Acted) (out′ : List ℤ) : Type 0 where
+  pub is : (P : Program) → Places s P places → (H : Head) → Each InStatement (codeAt s at) →
+      Passes s m (argumentsOf (nextIn m (coded H s at))) out r out′ (Rules.coming P m (coded H s at) (getElem? (codeAt s at) (m .done)))
 
 -- the act of a frame
 abbrev pub Acts : List ℕ → List ℕ → Frame → List ℤ → Acted → List ℤ → Type 0
@@ -239,12 +213,12 @@ abbrev pub fewBy : Ended → Type 0
 fewBy (Gives n) = n ≤ most
 fewBy Runs = Unit {0}
 
--- what the frame m returns by the code of a block whose number of statements stands at an offset, and what it returns
+-- what the frame m returns by the code at an offset, and what it returns
 pub record Ending (s : List ℕ) (m : Frame) (at : ℕ) (out : List ℤ) (r : Ended) (out′ : List ℤ) : Type 0 where
   pub few : fewBy r
-  pub is : (P : Program) (B : Block) → Codes s at B →
-      givenBy r out′ ≡ Rules.returned [] (Rules.coming P m B (getElem? (B .code) (m .done)))
-  pub left : (B : Block) → Codes s at B → out′ ≡ filled m (returnsOf m (nextIn m B)) out
+  pub is : (P : Program) (H : Head) →
+      givenBy r out′ ≡ Rules.returned [] (Rules.coming P m (coded H s at) (getElem? (codeAt s at) (m .done)))
+  pub left : (H : Head) → out′ ≡ filled m (returnsOf m (nextIn m (coded H s at))) out
 
 pub record Giving (s places : List ℕ) (m : Frame) (out : List ℤ) (r : Ended) (out′ : List ℤ) : Type 0 where
   pub few : fewBy r

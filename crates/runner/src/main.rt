@@ -1,8 +1,9 @@
 // The runner: a table, then choices, from standard input; what the check says, a line for each choice, and main's values to
 // standard output.
 use answers::Answer;
-use frames::Pool;
 use libc::STDIN_FILENO;
+use places::Places;
+use pool::Pool;
 use steps::Made;
 
 mod text;
@@ -30,7 +31,7 @@ fn take(table: &mut [u8; 16384]) -> usize {
     if fill(table, 0, 4) < 4 {
         return 0;
     }
-    let size = reader::length_field(table) as usize;
+    let size = table::length_field(table) as usize;
     if size < 6 {
         return 0;
     }
@@ -74,7 +75,7 @@ fn told(out: &mut [u8; 65536], r: Run, kind: u8, thread: u8, made: Made) -> Run 
 // One choice, and its line.
 fn choose(
     t: &[u8],
-    places: &[u16; 656],
+    places: &Places,
     ws: &mut [i32; Pool::WORDS],
     out: &mut [u8; 65536],
     r: Run,
@@ -88,7 +89,7 @@ fn choose(
 // Pairs of bytes up to the first refusal. A lone last byte is dropped.
 fn pairs(
     t: &[u8],
-    places: &[u16; 656],
+    places: &Places,
     ws: &mut [i32; Pool::WORDS],
     out: &mut [u8; 65536],
     run: Run,
@@ -112,7 +113,7 @@ fn pairs(
 // The next choices of the input; a chunk that is not full is the last.
 fn chunk(
     t: &[u8],
-    places: &[u16; 656],
+    places: &Places,
     ws: &mut [i32; Pool::WORDS],
     out: &mut [u8; 65536],
     run: Run,
@@ -131,7 +132,7 @@ fn chunk(
 // uses up.
 fn choices(
     t: &[u8],
-    places: &[u16; 656],
+    places: &Places,
     ws: &mut [i32; Pool::WORDS],
     out: &mut [u8; 65536],
     waits: usize,
@@ -155,7 +156,7 @@ fn choices(
 // The last line: main's values, or that it is open.
 fn result(
     t: &[u8],
-    places: &[u16; 656],
+    places: &Places,
     ws: &[i32; Pool::WORDS],
     out: &mut [u8; 65536],
     waits: usize,
@@ -172,10 +173,10 @@ fn result(
 }
 
 // The run of an accepted table, by its places.
-fn accepted(t: &[u8], places: &[u16; 656], out: &mut [u8; 65536]) -> usize {
+fn accepted(t: &[u8], places: &Places, out: &mut [u8; 65536]) -> usize {
     let mut ws = [0i32; Pool::WORDS];
     let n = text::bytes(out, 0, b"accepted\n");
-    frames::start_pool(&mut ws);
+    pool::start_pool(&mut ws);
     let n = choices(t, places, &mut ws, out, n);
     result(t, places, &ws, out, n)
 }
@@ -183,7 +184,7 @@ fn accepted(t: &[u8], places: &[u16; 656], out: &mut [u8; 65536]) -> usize {
 // What the check says of a table of a size; the choices of one that it accepts.
 fn checked(table: &[u8; 16384], size: usize, out: &mut [u8; 65536]) -> usize {
     let t = text::front(table, size);
-    let mut places = [0u16; 656];
+    let mut places = places::none();
     match verifier::check_placed(t, &mut places) {
         Answer::Given => accepted(t, &places, out),
         Answer::Refused(why) => {

@@ -17,7 +17,7 @@ use Rattle.model.specs.Lists.{Each, Snoc, unsnoc, equal}
 use Rattle.model.specs.Values.{same}
 use Rattle.model.specs.Sets.{has, _∈_}
 use Rattle.model.specs.Syntax.{Statement, Transfer, Block, Program}
-use Rattle.model.specs.Pool.{Frame, Thread, mostFrames, blockOf}
+use Rattle.model.specs.Pool.{Frame, Thread, mostFrames, frames, restacked, blockOf}
 use Rattle.model.specs.Frames.{look, lookAll, eval, enter, callee}
 use Rattle.model.specs.Rules as Rules
 use Rattle.model.specs.Rules.{Act, Result, act}
@@ -151,50 +151,50 @@ module _ (P : Program) where
   refused-made e = made-refused (sym e)
 
   -- entering a block by another rule than 9
-  not-top : {A : Type 0} {p : List Thread} (rule : ℕ) (K : List Frame) (ts : List Thread) (o : Option Frame) → rule ≢ No.prom →
-      Rules.onTop rule K ts o ≡ Result.made No.prom p → A
+  not-top : {A : Type 0} {p : List Thread} (rule : ℕ) (t : Thread) (K : List Frame) (ts : List Thread) (o : Option Frame) →
+      rule ≢ No.prom → Rules.onTop rule t K ts o ≡ Result.made No.prom p → A
   unfolding Rules.onTop
-  not-top rule K ts none d e = refused-made e
-  not-top rule K ts (some l) d e = absurd (d (made-rule e))
+  not-top rule t K ts none d e = refused-made e
+  not-top rule t K ts (some l) d e = absurd (d (made-rule e))
 
-  not-pop : {A : Type 0} {p : List Thread} (K : List Frame) (ts : List Thread) (v̄ : List ℤ) →
-      Rules.popping P K ts v̄ ≡ Result.made No.prom p → A
+  not-pop : {A : Type 0} {p : List Thread} (t : Thread) (K : List Frame) (ts : List Thread) (v̄ : List ℤ) →
+      Rules.popping P t K ts v̄ ≡ Result.made No.prom p → A
   unfolding Rules.popping
-  not-pop [] ts v̄ e = refused-made e
-  not-pop (k ∷ K) ts v̄ e = not-top No.return K ts (enter P k (k .block) v̄) (omega arith) e
+  not-pop t [] ts v̄ e = refused-made e
+  not-pop t (k ∷ K) ts v̄ e = not-top No.return t K ts (enter P k (k .block) v̄) (omega arith) e
 
   not-push : {A : Type 0} {p : List Thread} (q : List Thread) (room : Bool) →
       cond room (Result.made No.call q) (Result.refused No.frames) ≡ Result.made No.prom p → A
   not-push q true e = absurd (omega (arith, made-rule e))
   not-push q false e = refused-made e
 
-  meets-child : {p : List Thread} (t u : Thread) (ts : List Thread) (l : Frame) (c : ℕ) (K : List Frame) →
-      AtSpoin P (t .newest) → (o : Option (List ℤ)) → Rules.ended P u ≡ o → Rules.joining P l c K ts o ≡ Result.made No.prom p →
+  meets-child : {p : List Thread} (t u : Thread) (ts : List Thread) (l : Frame) (c : ℕ) →
+      AtSpoin P (t .newest) → (o : Option (List ℤ)) → Rules.ended P u ≡ o → Rules.joining P t l c ts o ≡ Result.made No.prom p →
       Meets t (u ∷ ts)
   unfolding Rules.joining Rules.ended
-  meets-child t u ts l c K h none d e = refused-made e
-  meets-child t u ts l c K h (some v̄) d e =
+  meets-child t u ts l c h none d e = refused-made e
+  meets-child t u ts l c h (some v̄) d e =
       let r = ended-returns (u .newest) (u .older) (act P (u .newest)) (says P (u .newest)) d in
       record { child = u; next = refl; spoin = h; oneFrame = r .0; return = r .1 }
 
-  meets-join : {p : List Thread} (t : Thread) (ts : List Thread) (l : Frame) (c : ℕ) (K : List Frame) → AtSpoin P (t .newest) →
-      Rules.joins P l c K ts ≡ Result.made No.prom p → Meets t ts
+  meets-join : {p : List Thread} (t : Thread) (ts : List Thread) (l : Frame) (c : ℕ) → AtSpoin P (t .newest) →
+      Rules.joins P t l c ts ≡ Result.made No.prom p → Meets t ts
   unfolding Rules.joins
-  meets-join t [] l c K h e = refused-made e
-  meets-join t (u ∷ ts) l c K h e = meets-child t u ts l c K h (Rules.ended P u) refl e
+  meets-join t [] l c h e = refused-made e
+  meets-join t (u ∷ ts) l c h e = meets-child t u ts l c h (Rules.ended P u) refl e
 
-  meets-apply : {p : List Thread} (t : Thread) (ts : List Thread) (K : List Frame) (a : Act) → Says P (t .newest) a →
-      Rules.apply P K ts a ≡ Result.made No.prom p → Meets t ts
+  meets-apply : {p : List Thread} (t : Thread) (ts : List Thread) (a : Act) → Says P (t .newest) a →
+      Rules.apply P t ts a ≡ Result.made No.prom p → Meets t ts
   unfolding Rules.apply
-  meets-apply t ts K (Act.refuse n) h e = refused-made e
-  meets-apply t ts K (Act.stay rule l) h e = absurd (h (made-rule e))
-  meets-apply t ts K (Act.push l m) h e = not-push (record { newest = m; older = l ∷ K } ∷ ts) (ltb (suc (length K)) mostFrames) e
-  meets-apply t ts K (Act.pop v̄) h e = not-pop K ts v̄ e
-  meets-apply t ts K (Act.join l c) h e = meets-join t ts l c K h e
+  meets-apply t ts (Act.refuse n) h e = refused-made e
+  meets-apply t ts (Act.stay rule l) h e = absurd (h (made-rule e))
+  meets-apply t ts (Act.push l m) h e = not-push (restacked t (m ∷ l ∷ t .older) ∷ ts) (ltb (length (frames t)) mostFrames) e
+  meets-apply t ts (Act.pop v̄) h e = not-pop t (t .older) ts v̄ e
+  meets-apply t ts (Act.join l c) h e = meets-join t ts l c h e
 
   meets : {p : List Thread} (t : Thread) (ts : List Thread) → Rules.step P t ts ≡ Result.made No.prom p → Meets t ts
   unfolding Rules.step
-  meets t ts e = meets-apply t ts (t .older) (act P (t .newest)) (says P (t .newest)) e
+  meets t ts e = meets-apply t ts (act P (t .newest)) (says P (t .newest)) e
 
   -- the thread that is put the step, and the one behind it
   record Stands (p : List Thread) (i : ℕ) : Type 0 where

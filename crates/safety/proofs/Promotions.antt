@@ -1,6 +1,6 @@
 -- A promotion in a typed thread: its needs are met, and the child runs what the call promises.
 use Prim.Native.Nat.{ℕ, zero, suc, _+_, _<_}
-use mathlib.Core.Path.{_≡_, refl, subst}
+use mathlib.Core.Path.{_≡_, refl, ap, subst, subst⁻¹, _∙_}
 use mathlib.Core.Bool.{Bool, true, false}
 use mathlib.Core.Option.{Option, none, some, Option·map}
 use mathlib.Core.List.{List, [], _∷_, _++_}
@@ -10,7 +10,7 @@ use Rattle.model.specs.Numbers as No
 use Rattle.model.specs.Lists.{Each}
 use Rattle.model.specs.Syntax.{Function, Program}
 use Rattle.model.specs.WellFormed.{env, WF-spawn, Nested, WF-prog}
-use Rattle.model.specs.Pool.{Frame, Thread, frames, begin, functionOf}
+use Rattle.model.specs.Pool.{Frame, Thread, frames, born, restacked, begin, functionOf}
 use Rattle.model.specs.Frames.{_>>=_, deque}
 use Rattle.model.specs.Rules.{Result, Promotion, promoteIn, above, orElse, oldest, child, spawned, promoting, promote}
 use Rattle.model.proofs.Facts.{none-some, some-injective, each-at, at-below}
@@ -28,28 +28,28 @@ data Promoted (k : Frame) (π : ℕ) : List Frame → List Frame → Type 0 wher
 
 -- the oldest unpromoted call is one
 abbrev Finds : List Frame → Promotion → Type 0
-Finds K p = Promoted (p .holder) (p .call) K (frames (p .parent))
+Finds K p = Promoted (p .holder) (p .call) K (p .frames)
 
 abbrev promotion : Frame → List Frame → ℕ → Promotion
-promotion k K π = record { holder = k; call = π; parent = record { newest = deque k (k .calls) (k .promoted + 1); older = K } }
+promotion k K π = record { holder = k; call = π; frames = deque k (k .calls) (k .promoted + 1) ∷ K }
 
 in-finds : (k : Frame) (K : List Frame) (p : Promotion) (o : Option ℕ) → getElem? (k .calls) (k .promoted) ≡ o →
     _>>=_ o (λ π. some (promotion k K π)) ≡ some p → Finds (k ∷ K) p
 in-finds k K p none e h = none-some h
 in-finds k K p (some π) e h = subst (Finds (k ∷ K)) (some-injective h) (Promoted.here e)
 
-or-finds : (k l : Frame) (K : List Frame) (p : Promotion) (o : Option Promotion) → ((q : Promotion) → o ≡ some q →
-    Finds (l ∷ K) q) → orElse (Option·map (above k) o) (promoteIn k (l ∷ K)) ≡ some p → Finds (k ∷ l ∷ K) p
+or-finds : (k : Frame) (K : List Frame) (p : Promotion) (o : Option Promotion) → ((q : Promotion) → o ≡ some q → Finds K q) →
+    orElse (Option·map (above k) o) (promoteIn k K) ≡ some p → Finds (k ∷ K) p
 unfolding orElse promoteIn
-or-finds k l K p none f h = in-finds k (l ∷ K) p (getElem? (k .calls) (k .promoted)) refl h
-or-finds k l K p (some q) f h =
-    let g : Finds (k ∷ l ∷ K) (above k q) = Promoted.under (f q refl) in
-    subst (Finds (k ∷ l ∷ K)) (some-injective h) g
+or-finds k K p none f h = in-finds k K p (getElem? (k .calls) (k .promoted)) refl h
+or-finds k K p (some q) f h =
+    let g : Finds (k ∷ K) (above k q) = Promoted.under (f q refl) in
+    subst (Finds (k ∷ K)) (some-injective h) g
 
-finds : (k : Frame) (K : List Frame) (p : Promotion) → oldest k K ≡ some p → Finds (k ∷ K) p
-unfolding oldest promoteIn
-finds k [] p h = in-finds k [] p (getElem? (k .calls) (k .promoted)) refl h
-finds k (l ∷ K) p h = or-finds k l K p (oldest l K) (finds l K) h
+finds : (K : List Frame) (p : Promotion) → oldest K ≡ some p → Finds K p
+unfolding oldest
+finds [] p h = none-some h
+finds (k ∷ K) p h = or-finds k K p (oldest K) (finds K) h
 
 at-call : {k : Frame} {π : ℕ} {K K′ : List Frame} → Promoted k π K K′ → getElem? (k .calls) (k .promoted) ≡ some π
 at-call (Promoted.here e) = e
@@ -104,13 +104,13 @@ module _ (P : Program) where
   stack-held {F} r l K (Promoted.here e) u c = record { function = F; block = _; takes = u .takes; opens = u .opens }
   stack-held {F} r l K (Promoted.under q) u c = callers-held (F .signature .returns) r q c
 
-  -- the parent stays typed
-  stack-kept : {F : Function} (r : ℕ) {k : Frame} {π : ℕ} (l : Frame) (K : List Frame) (l′ : Frame) (K′ : List Frame) →
-      Promoted k π (l ∷ K) (l′ ∷ K′) → Runs P F l → Callers P (F .signature .returns) K r →
-      Typed P r (record { newest = l′; older = K′ })
-  stack-kept {F} r l K l′ K′ (Promoted.here e) u c = record { function = F; runs = runs-kept _ u; callers = c }
-  stack-kept {F} r l K l′ K′ (Promoted.under q) u c =
-      record { function = F; runs = u; callers = callers-kept (F .signature .returns) r q c }
+  -- the parent stays typed, and its frames are those
+  stack-kept : {F : Function} (t : Thread) (r : ℕ) {k : Frame} {π : ℕ} (l : Frame) (K K′ : List Frame) →
+      Promoted k π (l ∷ K) K′ → Runs P F l → Callers P (F .signature .returns) K r →
+      Typed P r (restacked t K′) × (frames (restacked t K′) ≡ K′)
+  stack-kept {F} t r l K K′ (Promoted.here e) u c = (record { function = F; runs = runs-kept _ u; callers = c }, refl)
+  stack-kept {F} t r l K K′ (Promoted.under q) u c =
+      (record { function = F; runs = u; callers = callers-kept (F .signature .returns) r q c }, refl)
 
 module _ {P : Program} (W : WF-prog P) where
   -- the child that an open call of a typed frame spawns
@@ -158,23 +158,25 @@ pub data Promotes (P : Program) (r : ℕ) (rs : List ℕ) : Result → Type 0 wh
 
 module _ {P : Program} (W : WF-prog P) {t : Thread} {r : ℕ} (y : Typed P r t) (s : IsThread P t) (ts : List Thread) (rs : List ℕ)
     (w : Forest P ts (promised P (frames t) ++ rs)) where
-  promotes-in : (p : Promotion) → Finds (frames t) p → Promotes P r rs (spawned (p .parent) ts (child P (p .holder) (p .call)))
+  promotes-in : (p : Promotion) → Finds (frames t) p →
+      Promotes P r rs (spawned (restacked t (p .frames)) ts (child P (p .holder) (p .call)))
   unfolding spawned
   promotes-in p q =
       let c = spawns W (p .holder .promoted) (stack-held P r (t .newest) (t .older) q (y .runs) (y .callers)) (at-call q) in
-      let k : Thread = record { newest = c .newest; older = [] } in
+      let k : Thread = born (c .newest) in
       let z : Typed P (c .function .signature .returns) k = record { function = c .function; runs = c .runs; callers = refl } in
       let g : Forest P ts (promised P (frames k) ++ (promised P (frames t) ++ rs)) = rw (c .owes) w in
-      let u = stack-kept P r (t .newest) (t .older) (p .parent .newest) (p .parent .older) q (y .runs) (y .callers) in
-      rw (c .is) (Promotes.goes {ts = p .parent ∷ k ∷ ts} (u, rw (promises P q (s .order), c .returns) (z, g)))
+      let u = stack-kept P t r (t .newest) (t .older) (p .frames) q (y .runs) (y .callers) in
+      let e = ap (promised P) (u .1) ∙ promises P q (s .order) ∙ ap (λ (n : ℕ). n ∷ promised P (frames t)) (c .returns) in
+      rw (c .is)
+      (Promotes.goes {ts = restacked t (p .frames) ∷ k ∷ ts} (u .0, subst⁻¹ (λ (ns : List ℕ). Forest P (k ∷ ts) (ns ++ rs)) e (z, g)))
 
-  promoting-safe : (room : Bool) (o : Option Promotion) → oldest (t .newest) (t .older) ≡ o →
-      Promotes P r rs (promoting P room ts o)
+  promoting-safe : (room : Bool) (o : Option Promotion) → oldest (frames t) ≡ o → Promotes P r rs (promoting P room t ts o)
   unfolding promoting
   promoting-safe room none e = Promotes.nothing
   promoting-safe false (some p) e = Promotes.full
-  promoting-safe true (some p) e = promotes-in p (finds (t .newest) (t .older) p e)
+  promoting-safe true (some p) e = promotes-in p (finds (frames t) p e)
 
   pub promotes : (room : Bool) → Promotes P r rs (promote P room t ts)
   unfolding promote
-  promotes room = promoting-safe room (oldest (t .newest) (t .older)) refl
+  promotes room = promoting-safe room (oldest (frames t)) refl

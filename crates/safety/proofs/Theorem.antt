@@ -7,7 +7,7 @@ use lib.IntN.{ℤ}
 use lib.ListN.{length}
 use Rattle.model.specs.Numbers as No
 use Rattle.model.specs.Answers.{Refusal, Answer, with}
-use Rattle.model.specs.Pool.{poolWords, wordsOf, begin, started}
+use Rattle.model.specs.Pool.{poolWords, wordsOf, born, begin, started}
 use Rattle.model.specs.Calls as Calls
 use Rattle.model.specs.Calls.{Lent, Called, lent, check, measured, lentWords, starting, start}
 use Rattle.model.proofs.Facts.{eq-eqb}
@@ -37,7 +37,7 @@ unfolding started
 good-start {s} T =
     let W = T .formed in
     let b = begins W 0 [] (W .first) (sym (W .starts)) in
-    let t : Typed (T .program) (W .main .signature .returns) (record { newest = begin 0 []; older = [] }) =
+    let t : Typed (T .program) (W .main .signature .returns) (born (begin 0 [])) =
     record { function = W .main; runs = b .runs; callers = refl }
     in
     record {

@@ -15,7 +15,8 @@ use ghost.Atoms.{Atoms}
 use sound.Laws.{∗emp}
 use sound.WpLaws.{FmC}
 use contract.Monad.{fact}
-use types.Kit.{Given, Item, Post, Go, Sq, runs, settles, ‵, raw, _⊛_, some, later, ⋆, _$_, _∵_, !, qed, move, drop, use1, split, pick, frame, await, fjoin, done}
+use types.Kit.{Given, Item, Post, Go, Sq, runs, settles, ‵, raw, _⊛_, some, later, ⋆, _$_, _∵_, !, qed, move, drop, use1, split, pick}
+use types.Kit.{frame, await, fjoin, done}
 use types.Run.{Opds}
 use denote.RattleType.{RattleType}
 use denote.Laws.{Is, Makes, shows}

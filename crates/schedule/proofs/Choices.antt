@@ -8,7 +8,8 @@ use lib.ListN.{length, getD, drop}
 use Rattle.schedule.specs.declared.Choice.{Choice}
 use Rattle.schedule.specs.Choices.{choiceOf, choicesOf}
 
-pub next-choice : (cs : List Choice) (n : ℕ) (d : Choice) → n < length cs → drop n (choicesOf cs) ≡ choiceOf (getD cs n d) ∷ drop (n + 1) (choicesOf cs)
+pub next-choice : (cs : List Choice) (n : ℕ) (d : Choice) → n < length cs
+    → drop n (choicesOf cs) ≡ choiceOf (getD cs n d) ∷ drop (n + 1) (choicesOf cs)
 unfolding choicesOf
 next-choice [] n d h = absurd (omega arith)
 next-choice (c ∷ cs) zero d h = refl

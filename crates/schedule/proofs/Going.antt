@@ -34,7 +34,8 @@ pub record Going (s places : List ℕ) (ws : List ℤ) (cs : List Choice) (n : �
   pub at : (P : Program) (p : Pool) → Places s P places → ws ≡ wordsOf p → isPool P p ≡ true → GoesOn P p cs n ws′ rest
 
 -- what a choice on words says of the choice itself: it was made, or it was refused
-answer-given : (ws ws′ : List ℤ) (rule : ℕ) (x : Result) → _≡_ {A = Called ℕ} (record { answer = Answer.given rule; after = ws′ }) (made ws x)
+answer-given : (ws ws′ : List ℤ) (rule : ℕ) (x : Result)
+    → _≡_ {A = Called ℕ} (record { answer = Answer.given rule; after = ws′ }) (made ws x)
     → (p : Pool) × (x ≡ Result.made rule p) × (ws′ ≡ wordsOf p)
 unfolding made
 answer-given ws ws′ rule (Result.made k p) e =
@@ -43,7 +44,8 @@ answer-given ws ws′ rule (Result.made k p) e =
     (p, ap (λ (m : ℕ). Result.made m p) (sym r), ap (λ (c : Called ℕ). c .after) e)
 answer-given ws ws′ rule (Result.refused n) e = refused-given (sym (ap (λ (c : Called ℕ). c .answer) e))
 
-answer-refused : (ws ws′ : List ℤ) (n : ℕ) (x : Result) → _≡_ {A = Called ℕ} (record { answer = Answer.refused (Refusal.plain n); after = ws′ }) (made ws x)
+answer-refused : (ws ws′ : List ℤ) (n : ℕ) (x : Result)
+    → _≡_ {A = Called ℕ} (record { answer = Answer.refused (Refusal.plain n); after = ws′ }) (made ws x)
     → (x ≡ Result.refused n) × (ws′ ≡ ws)
 unfolding made
 answer-refused ws ws′ n (Result.made k p) e = refused-given (ap (λ (c : Called ℕ). c .answer) e)
@@ -75,7 +77,8 @@ stopped-report : (n number : ℕ) (ws : List ℤ) (p : Pool) → ws ≡ wordsOf 
 unfolding scheduledOf reported stopped
 stopped-report n number ws p e = λ i. record { answer = Answer.refused (Refusal.plain number); made = sym (add-zero n) i; after = e i }
 
-all-report : (n : ℕ) (ws : List ℤ) (P : Program) (p : Pool) → ws ≡ wordsOf p → scheduledOf (endedOf (All n)) ws ≡ reported (moreBy n (run P p []))
+all-report : (n : ℕ) (ws : List ℤ) (P : Program) (p : Pool) → ws ≡ wordsOf p
+    → scheduledOf (endedOf (All n)) ws ≡ reported (moreBy n (run P p []))
 unfolding scheduledOf reported stopped run
 all-report n ws P p e = λ i. record { answer = Answer.given tt; made = sym (add-zero n) i; after = e i }
 
@@ -97,12 +100,15 @@ module _ {s places : List ℕ} {ws : List ℤ} {cs : List Choice} where
               left = q .left ∙ ap (moreBy n) (run-made P (q .pool) (z .0) c rest (z .1)) ∙ more-by n (run P (z .0) rest);
             }
 
-    pub going-refused : {number : ℕ} → Chooses s places ws′ (c .kind) (c .thread) (Refused number) ws″ → Runs s places ws cs (Stopped n number) ws″
+    pub going-refused : {number : ℕ} → Chooses s places ws′ (c .kind) (c .thread) (Refused number) ws″
+        → Runs s places ws cs (Stopped n number) ws″
     going-refused {number} h = record { is = λ P p t w v. one P p t (g .at P p t w v) }
       where
-        one : (P : Program) (p : Pool) → Places s P places → GoesOn P p cs n ws′ (c ∷ rest) → scheduledOf (endedOf (Stopped n number)) ws″ ≡ reported (run P p cs)
+        one : (P : Program) (p : Pool) → Places s P places → GoesOn P p cs n ws′ (c ∷ rest)
+            → scheduledOf (endedOf (Stopped n number)) ws″ ≡ reported (run P p cs)
         one P p t q =
-            let z = answer-refused ws′ ws″ number (choice P (q .pool) (c .kind) (c .thread)) (h P (q .pool) t (q .words) (q .valid) .called) in
+            let z =
+            answer-refused ws′ ws″ number (choice P (q .pool) (c .kind) (c .thread)) (h P (q .pool) t (q .words) (q .valid) .called) in
             stopped-report n number ws″ (q .pool) (z .1 ∙ q .words) ∙
             sym (ap reported (q .left ∙ ap (moreBy n) (run-refused P (q .pool) c rest (z .0))))
 

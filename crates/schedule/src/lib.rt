@@ -1,6 +1,8 @@
 // A schedule: a list of choices, each a kind and a thread, up to the first refusal.
 use answers::Answer;
 use answers::Refusal;
+use places::Layout;
+use places::Places;
 use steps::Made;
 ghost use mathlib.Core.Path.{_≡_};
 ghost use lib.ListN.{length};
@@ -29,7 +31,7 @@ enum Ran {
 }
 
 // The choices, on a valid pool of a table that was read.
-fn run(s: &[u8], places: &[u16; 656], ws: &mut [i32], choices: &[Choice]) -> Ran
+fn run(s: &[u8], places: &Places, ws: &mut [i32], choices: &[Choice]) -> Ran
     requires { ⌜ length (now ws) ≡ poolWords ⌝ }
     ensures { λ r. ⌜ Runs (now (s .entry)) (now (places .entry)) (now (ws .entry)) (choicesOf (now (choices .entry))) r (now (ws .exit)) ⌝ }
 {
@@ -69,17 +71,19 @@ fn unlent(a: Answer) -> Scheduled
 }
 
 // The table and a pool of it, lent for writing; the pool stays as it was.
-fn admit(table: &[u8], places: &mut [u16; 656], pool: &mut [i32]) -> Answer
-    ensures { λ r. ⌜ LendsPool (now (table .entry)) (now (pool .entry)) (now (places .exit)) r × (now (pool .exit) ≡ now (pool .entry)) ⌝ }
+fn admit(table: &[u8], places: &mut Places, pool: &mut [i32]) -> Answer
+    ensures { λ r. ⌜ LendsPool (now (table .entry)) (now (pool .entry)) (now (places .entry)) (now (places .exit)) r
+        × (now (pool .exit) ≡ now (pool .entry)) ⌝ }
 {
     lend::pool(table, places, pool)
 }
 
 // The table is read once and the pool judged once; then the choices.
 pub fn schedule(table: &[u8], pool: &mut [i32], choices: &[Choice]) -> Scheduled
-    ensures { λ r. ⌜ scheduledOf r (now (pool .exit)) ≡ Calls.schedule (now (table .entry)) (now (pool .entry)) (choicesOf (now (choices .entry))) ⌝ }
+    ensures { λ r. ⌜ scheduledOf r (now (pool .exit))
+        ≡ Calls.schedule (now (table .entry)) (now (pool .entry)) (choicesOf (now (choices .entry))) ⌝ }
 {
-    let mut places = [0; 656];
+    let mut places = [Layout::ABSENT; Layout::LEN];
     let a = admit(table, &mut places, pool);
     match a {
         Answer::Given => ended(run(table, &places, pool, choices)),

@@ -1,5 +1,5 @@
 -- A choice on words is the model's choice, and the words are a pool of the table afterwards.
-use Prim.Native.Nat.{ℕ, zero, suc, _+_, _≤_, _<_}
+use Prim.Native.Nat.{ℕ, zero, suc, _≤_, _<_}
 use mathlib.Core.Path.{_≡_, refl, ap, subst, _∙_}
 use mathlib.Core.Bool.{true, false}
 use mathlib.Core.List.{List, [], _∷_, _++_}
@@ -19,9 +19,9 @@ use Rattle.model.proofs.Valid.{pool-facts}
 use Rattle.model.proofs.Words.{pool-fits, words-valid}
 use Rattle.model.proofs.Kept.{choice-kept}
 use Rattle.places.specs.Places.{Places}
-use Rattle.frames.specs.Held.{Held, ThreadAt}
-use Rattle.frames.specs.Edits.{threadsIn}
-use Rattle.frames.proofs.Steps.{threads-counted}
+use Rattle.pool.specs.Held.{Held, ThreadAt}
+use Rattle.pool.specs.Edits.{threadsIn}
+use Rattle.pool.proofs.Steps.{threads-counted}
 use Rattle.steps.specs.declared.Made.{Made}
 use Rattle.steps.specs.declared.Made.the-variants.{Refused}
 use Rattle.steps.specs.Decision.{before}
@@ -70,7 +70,8 @@ module _ (P : Program) (p : Pool) {ws : List ℤ} (w : ws ≡ wordsOf p) (v : is
       omega (arith, threads-counted h, ap length (r .is), length-append (r .front) (r .thread ∷ r .back))
 
   -- what a choice comes to
-  comes-chose : {kind thread : ℕ} {r : Made} {ws′ : List ℤ} → Limits P → Comes ws (choice P p kind thread) r ws′ → Chose P p ws kind thread r ws′
+  comes-chose : {kind thread : ℕ} {r : Made} {ws′ : List ℤ} → Limits P → Comes ws (choice P p kind thread) r ws′
+      → Chose P p ws kind thread r ws′
   unfolding made
   comes-chose {kind} {thread} {r} {ws′} L h = go (choice P p kind thread) refl h
     where
@@ -123,6 +124,7 @@ module _ {s places : List ℕ} {ws : List ℤ} {kind thread : ℕ} where
         ≡ before (x .front) (promote P (ltb (length (x .front ++ x .thread ∷ x .back)) mostThreads) (x .thread) (x .back)) =
         ap (λ (k : ℕ). choice P p k thread) k
         ∙ ap (λ (p : Pool). onThread (promote P (ltb (length p) mostThreads)) p thread) (x .is)
-        ∙ on-thread (promote P (ltb (length (x .front ++ x .thread ∷ x .back)) mostThreads)) (x .front) (x .thread) (x .back) thread (x .place)
+        ∙ on-thread (promote P (ltb (length (x .front ++ x .thread ∷ x .back)) mostThreads)) (x .front) (x .thread) (x .back) thread
+        (x .place)
         in
         comes-chose P p w v (q .limits) (rw e (f P (x .front) (x .thread) (x .back) (known-at P p w v q x)))

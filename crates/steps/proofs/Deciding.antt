@@ -1,5 +1,5 @@
 -- What each answer of the code that decides says of the step.
-use Prim.Native.Nat.{ℕ, _+_, _*_, _-_, _≤_, _<_}
+use Prim.Native.Nat.{ℕ, _+_, _-_, _≤_, _<_}
 use mathlib.Core.Path.{_≡_, refl, sym, ap, subst, subst⁻¹, _∙_}
 use mathlib.Core.Bool.{true, false}
 use mathlib.Core.Option.{none, some}
@@ -12,26 +12,29 @@ use types.Run.{miss}
 use Rattle.model.specs.Numbers as No
 use Rattle.model.specs.Lists.{pad}
 use Rattle.model.specs.Syntax.{Program}
-use Rattle.model.specs.Pool.{Frame, Thread, Pool, mostFrames, frameWords, threadWords}
+use Rattle.model.specs.Pool.{Frame, Thread, Pool, mostFrames, frameWords, framesAt, threadStart, restacked}
 use Rattle.model.specs.Frames.{lookAll, deque, enter}
 use Rattle.model.specs.Rules.{Act, act, ended, returned}
-use Rattle.frames.specs.Held.{FrameAt}
-use Rattle.frames.specs.Edits.{threadsIn, framesIn}
-use Rattle.frames.specs.InPlace.{frameAt, newestAt}
-use Rattle.frames.proofs.Steps.{frames-counted, threads-counted}
-use Rattle.eval.specs.Code.{most}
+use Rattle.pool.specs.Held.{FrameAt}
+use Rattle.pool.specs.Edits.{threadsIn, framesIn}
+use Rattle.pool.specs.InPlace.{frameAt, newestAt}
+use Rattle.pool.proofs.Steps.{frames-counted, threads-counted}
+use Rattle.code.specs.Code.{most}
 use Rattle.eval.specs.Given.{valuesAs, lookedAs, filled}
 use Rattle.eval.proofs.Buffers.{filled-none, filled-zeros}
 use Rattle.rules.specs.declared.Acted.{Acted}
 use Rattle.rules.specs.declared.Does.{Does}
 use Rattle.rules.specs.declared.Does.the-variants.{Refuse, Bind, Enter, Open, Close, Push, Pop, Join}
-use Rattle.rules.specs.Acts.{acting, arrived, closed, actBy, Parameters, soundBy, Is, nextOf, argumentsOf, returnsOf, Passes, Acts, Arrives, Entering, Enters, givenBy, Giving}
+use Rattle.rules.specs.Acts.{acting, arrived, closed, actBy, Parameters, soundBy, Is, nextOf, argumentsOf, returnsOf, Passes, Acts, Arrives}
+use Rattle.rules.specs.Acts.{Entering, Enters, givenBy, Giving}
 use Rattle.rules.specs.declared.Ended.{Ended}
 use Rattle.rules.specs.declared.Ended.the-variants.{Gives, Runs}
 use Rattle.rules.proofs.Endings.{act-gives}
 use Rattle.steps.specs.Decision.{Decision, Decides}
-use Rattle.steps.specs.Choice.{decisionBy, soundIn, Decided, DecidedWith, Known, Ends, ofOne, endsWith, Brought, Brings, Calls, Returns, leftByFirst, Joins, passedBy, leftBy, leftIn, DecidesAt}
-use Rattle.steps.proofs.Effects.{decides-refuse, decides-stay, decides-push, decides-full, decides-ended, decides-pop, decides-lost, decides-alone, decides-waits, decides-join, decides-unmet}
+use Rattle.steps.specs.Choice.{decisionBy, soundIn, Decided, DecidedWith, Known, Ends, ofOne, endsWith, Brought, Brings, Calls}
+use Rattle.steps.specs.Choice.{Returns, leftByFirst, Joins, passedBy, leftBy, leftIn, DecidesAt}
+use Rattle.steps.proofs.Effects.{decides-refuse, decides-stay, decides-push, decides-full, decides-ended, decides-pop, decides-lost}
+use Rattle.steps.proofs.Effects.{decides-alone, decides-waits, decides-join, decides-unmet}
 use Rattle.steps.proofs.Knowing.{acts-as, frame-is, newest-is, next-known}
 use Rattle.steps.proofs.Others.{Among}
 
@@ -85,7 +88,7 @@ module _ {s places : List ℕ} {ws : List ℤ} {i m : ℕ} (c : m ≡ framesIn w
         left = rw (more-none (t .older) _ l) (filled-none (t .newest) out);
       }
 
-  pub brings-given : (out₀ out : List ℤ) {k : ℕ} (r : Ended) → m ≡ 1 → k ≡ 1 + threadWords * i + 1
+  pub brings-given : (out₀ out : List ℤ) {k : ℕ} (r : Ended) → m ≡ 1 → k ≡ threadStart i + framesAt
       → Giving s places (frameAt ws k) out₀ r out
       → Brings s places ws i out₀ r out
   unfolding ended
@@ -143,35 +146,31 @@ module _ {ws : List ℤ} {i : ℕ} (d : Acted) {m : ℕ} (c : m ≡ framesIn ws 
       refused-by r e (decides-full _ _ (act-by d f q) (omega (arith, frames-counted h)))
 
 -- a block that is entered with values of the buffer
-entered : {s : List ℕ} {P : Program} {f b n : ℕ} {d : Does} {x : ℕ} {r : Acted} → Arrives s P f b n d x r → (m : Frame) (out : List ℤ) → m .function ≡ f
-    → length (take n out) ≡ n → enter P m b (take n out) ≡ some (arrived s r out m)
+entered : {s : List ℕ} {P : Program} {f b n : ℕ} {d : Does} {x : ℕ} {r : Acted} → Arrives s P f b n d x r → (m : Frame) (out : List ℤ)
+    → m .function ≡ f → length (take n out) ≡ n → enter P m b (take n out) ≡ some (arrived s r out m)
 entered {s} {P} {f} {b} {n} {d} {x} {r} A m out e l = A .is m (take n out) e l ∙ rw (A .block, A .count)
 
-parameters : {s : List ℕ} {P : Program} {f b n : ℕ} {e : Does} {x : ℕ} {r : Acted} → Arrives s P f b n e x r → Parameters s (r .parameters) (r .count)
+parameters : {s : List ℕ} {P : Program} {f b n : ℕ} {e : Does} {x : ℕ} {r : Acted} → Arrives s P f b n e x r
+    → Parameters s (r .parameters) (r .count)
 parameters {s} {P} {f} {b} {n} {e} {x} {r} A = subst⁻¹ (Parameters s (r .parameters)) (A .count) (A .parameters)
 
 -- a return
-ended-decides : {P : Program} {k : Frame} (K : List Frame) {ts : List Thread} {v̄ : List ℤ} → length K ≡ 0 → act P k ≡ Act.pop v̄
-    → Decides P (record { newest = k; older = K }) ts (Decision.refuse No.ended)
-ended-decides [] {ts} {v̄} z e = decides-ended v̄ e
-ended-decides (k ∷ K) z e = absurd (omega arith)
-
 module _ {s places : List ℕ} {ws : List ℤ} {i n m : ℕ} (c : m ≡ framesIn ws i) (r : Acted) where
   pub returns-ended : m < 2 → r ≡ acting Refuse No.ended 0 0 → Returns s places ws i n r
-  returns-ended o q P a t b h out l f e = refused-by r q (ended-decides (t .older) (omega (arith, frames-counted (h .thread))) e)
+  returns-ended o q P a t b h out l f e = refused-by r q (decides-ended t _ e (t .older) (omega (arith, frames-counted (h .thread))))
 
-  pub returns-entered : {j k f c₁ : ℕ} → 2 ≤ m → j ≡ newestAt ws i → k ≡ j - frameWords → f ≡ frameAt ws k .function → c₁ ≡ frameAt ws k .block
-      → Enters s places f c₁ n Pop 0 r → Returns s places ws i n r
+  pub returns-entered : {j k f c₁ : ℕ} → 2 ≤ m → j ≡ newestAt ws i → k ≡ j - frameWords → f ≡ frameAt ws k .function
+      → c₁ ≡ frameAt ws k .block → Enters s places f c₁ n Pop 0 r → Returns s places ws i n r
   returns-entered {j} {k} {f} {c₁} o z p e₁ e₂ g P a t b h out l few e = go (t .older) h
     where
-      go : (K : List Frame) → Known s places ws i P a (record { newest = t .newest; older = K }) b
-          → Decided P s (record { newest = t .newest; older = K }) b out r
+      go : (K : List Frame) → Known s places ws i P a (restacked t (t .newest ∷ K)) b
+          → Decided P s (restacked t (t .newest ∷ K)) b out r
       go [] u = absurd (omega (arith, frames-counted (u .thread)))
       go (m₁ ∷ K) u = by (g P (u .table))
         where
           is : frameAt ws k ≡ m₁
           is =
-              let x : FrameAt (record { newest = t .newest; older = m₁ ∷ K }) (m - 2) (t .newest ∷ []) m₁ K =
+              let x : FrameAt (restacked t (t .newest ∷ m₁ ∷ K)) (m - 2) (t .newest ∷ []) m₁ K =
               record { is = refl; place = omega (arith, frames-counted (u .thread)) }
               in
               frame-is u (omega (arith, z, p, c)) x
@@ -185,13 +184,16 @@ module _ {s places : List ℕ} {ws : List ℤ} {i n m : ℕ} (c : m ≡ framesIn
           long : length (take n out) ≡ n
           long = length-take-le n out (omega (arith, few, l))
 
-          by : Entering s P f c₁ n Pop 0 r → Decided P s (record { newest = t .newest; older = m₁ ∷ K }) b out r
+          here : enter P m₁ (m₁ .block) (take n out) ≡ enter P m₁ c₁ (take n out)
+          here = ap (λ (x : ℕ). enter P m₁ x (take n out)) (sym at)
+
+          by : Entering s P f c₁ n Pop 0 r → Decided P s (restacked t (t .newest ∷ m₁ ∷ K)) b out r
           by (Entering.arrives A) =
               decided-by r (A .does)
-              (decides-pop (take n out) e (arrived s r out m₁) (ap (λ (x : ℕ). enter P m₁ x (take n out)) (sym at) ∙ entered A m₁ out of long))
+              (decides-pop t (take n out) e (arrived s r out m₁) (here ∙ entered A m₁ out of long))
               (parameters A, omega arith)
           by (Entering.jams q N) =
-              refused-by r q (decides-lost (take n out) e (ap (λ (x : ℕ). enter P m₁ x (take n out)) (sym at) ∙ N m₁ (take n out) of long))
+              refused-by r q (decides-lost t (take n out) e (here ∙ N m₁ (take n out) of long))
 
 -- a join
 module _ {s places : List ℕ} {ws : List ℤ} {i f c : ℕ} (r : Acted) {m : ℕ} (z : m ≡ threadsIn ws) where

@@ -5,15 +5,15 @@ use mathlib.Core.List.{List, [], _∷_, _++_, append-assoc}
 use lib.IntN.{ℤ}
 use Rattle.model.specs.Lists.{Each}
 use Rattle.model.specs.Syntax.{Program}
-use Rattle.model.specs.Pool.{Frame, Thread, Pool, frames}
+use Rattle.model.specs.Pool.{Frame, Thread, Pool, startOf, frames}
 use Rattle.model.specs.Rules.{act}
 use Rattle.model.proofs.Facts.{each-right}
 use Rattle.model.specs.Valid.{IsThread, IsPool}
-use Rattle.frames.specs.Frame.{Small}
-use Rattle.frames.specs.Held.{startOf, FrameAt}
-use Rattle.frames.specs.InPlace.{frameAt, newestAt}
-use Rattle.frames.proofs.Pools.{small-thread}
-use Rattle.frames.proofs.InPlace.{frame-at, frame-held, newest-held}
+use Rattle.pool.specs.Frame.{Small}
+use Rattle.pool.specs.Held.{FrameAt}
+use Rattle.pool.specs.InPlace.{frameAt, newestAt}
+use Rattle.pool.proofs.Pools.{small-thread}
+use Rattle.pool.proofs.InPlace.{frame-at, frame-held, newest-held}
 use Rattle.rules.specs.declared.Acted.{Acted}
 use Rattle.rules.specs.Acts.{nextOf, argumentsOf, Passes, Acts}
 use Rattle.steps.specs.Choice.{Known}

@@ -17,8 +17,8 @@ use Rattle.model.specs.Calls.{Called, made}
 use Rattle.model.proofs.Facts.{true-false, ltb-true, ltb-false}
 use Rattle.places.specs.Places.{Places}
 use Rattle.words.specs.Runs.{pasted}
-use Rattle.frames.specs.Edits.{threadsIn}
-use Rattle.frames.proofs.Parts.{paste-all}
+use Rattle.pool.specs.Edits.{threadsIn}
+use Rattle.pool.proofs.Parts.{paste-all}
 use Rattle.steps.specs.declared.Made.{Made}
 use Rattle.steps.specs.declared.Made.the-variants.{Rule, Refused}
 use Rattle.steps.specs.declared.Stepper.{Stepper}
@@ -85,7 +85,8 @@ module _ {s places : List ℕ} {ws₀ ws : List ℤ} {i : ℕ} (h : Idle s place
       tried : (P : Program) (p : Pool) → Places s P places → ws₀ ≡ wordsOf p → isPool P p ≡ true → Tried P p ws i false ws′
       tried P p q w v = subst (λ (b : Bool). Tried P p ws i b ws′) e (f P p q (h .same P p q w v ∙ w) v)
 
-      go : (P : Program) (p : Pool) → Places s P places → ws₀ ≡ wordsOf p → isPool P p ≡ true → (j : ℕ) → j < i + 1 → (b : Bool) → ltb j i ≡ b → Stops P p j
+      go : (P : Program) (p : Pool) → Places s P places → ws₀ ≡ wordsOf p → isPool P p ≡ true → (j : ℕ) → j < i + 1 → (b : Bool)
+          → ltb j i ≡ b → Stops P p j
       go P p q w v j o true e = h .stops P p q w v j (ltb-true j i e)
       go P p q w v j o false e =
           let z : i ≡ j = omega (arith, ltb-false j i e) in

@@ -5,16 +5,16 @@ use mathlib.Core.List.{List, [], _∷_, _++_, append-assoc}
 use native.Mathlib.Omega.{arith}
 use lib.IntN.{ℤ}
 use lib.ListN.{length, take, length-append}
-use Rattle.model.specs.Pool.{Frame, Thread, Pool, mostCalls, mostFrames, frameWords, begin}
+use Rattle.model.specs.Pool.{Frame, Thread, Pool, mostCalls, mostFrames, frameWords, startOf, frames, restacked, begin}
 use Rattle.model.specs.Frames.{goTo, bind, deque}
-use Rattle.frames.specs.Frame.{Small}
-use Rattle.frames.specs.Held.{startOf, Held, ThreadAt, FrameAt}
-use Rattle.frames.specs.Edits.{framesIn, threadsIn, Pushed, Popped, Added, Removed}
-use Rattle.frames.specs.InPlace.{frameAt, newestAt, FrameHeld, Became, Jumped, Advanced, Opened, Closed, Promoted}
-use Rattle.frames.proofs.Steps.{frames-counted, threads-counted}
-use Rattle.frames.proofs.Edits.{frame-replaced}
-use Rattle.frames.proofs.Stores.{small-empty}
-use Rattle.frames.proofs.InPlace.{frame-at, became-held, became-then, newest-start, frame-held, newest-held, newest-became}
+use Rattle.pool.specs.Frame.{Small}
+use Rattle.pool.specs.Held.{Held, ThreadAt, FrameAt}
+use Rattle.pool.specs.Edits.{framesIn, threadsIn, Pushed, Popped, Added, Removed}
+use Rattle.pool.specs.InPlace.{frameAt, newestAt, FrameHeld, Became, Jumped, Advanced, Opened, Closed, Promoted}
+use Rattle.pool.proofs.Steps.{frames-counted, threads-counted}
+use Rattle.pool.proofs.Edits.{frame-replaced}
+use Rattle.pool.proofs.Stores.{small-empty}
+use Rattle.pool.proofs.InPlace.{frame-at, became-held, became-then, newest-start, frame-held, newest-held, newest-became}
 use Rattle.eval.specs.Given.{Binds, BindsAll, Begins}
 use Rattle.rules.specs.Acts.{closed}
 use Rattle.steps.specs.Writes.{Sets, Arrives, Opens, Closes, Shuts, Pushes, Pops, Unites, Spawned}
@@ -60,18 +60,19 @@ module _ {ws : List ℤ} {k : ℕ} where
     none-joined o m h few l = absurd (omega (arith, q, ap (λ (x : Frame). x .promoted) (frame-at h)))
 
 -- of thread i: its newest frame has become another
-pub newest-changed : {ws ws₁ : List ℤ} {i k : ℕ} {a b : Pool} {t : Thread} {m : Frame} → ThreadAt ws i a t b → Small (t .newest) → k ≡ newestAt ws i
-    → (FrameHeld ws k (t .newest) → Became ws k m ws₁) → ThreadAt ws₁ i a (record { newest = m; older = t .older }) b
+pub newest-changed : {ws ws₁ : List ℤ} {i k : ℕ} {a b : Pool} {t : Thread} {m : Frame} → ThreadAt ws i a t b → Small (t .newest)
+    → k ≡ newestAt ws i → (FrameHeld ws k (t .newest) → Became ws k m ws₁) → ThreadAt ws₁ i a (restacked t (m ∷ t .older)) b
 newest-changed {ws} {ws₁} {i} {k} {a} {b} {t} {m} h s e f =
     newest-became h
     (subst (λ (p : ℕ). Became ws p m ws₁) e (f (subst⁻¹ (λ (p : ℕ). FrameHeld ws p (t .newest)) e (newest-held h s))))
 
 -- a frame of it has become another
-frame-changed : {ws ws₁ : List ℤ} {i j k : ℕ} {a b : Pool} {t t₁ : Thread} {K₁ K₂ : List Frame} {m m₁ : Frame} → ThreadAt ws i a t b → FrameAt t j K₁ m K₂
-    → FrameAt t₁ j K₁ m₁ K₂ → Small m → k ≡ startOf i j → (FrameHeld ws k m → Became ws k m₁ ws₁) → ThreadAt ws₁ i a t₁ b
-frame-changed {ws} {ws₁} {i} {j} {k} {a} {b} {t} {t₁} {K₁} {K₂} {m} {m₁} h x y s e f =
+frame-changed : {ws ws₁ : List ℤ} {i j k : ℕ} {a b : Pool} {t : Thread} {K₁ K₂ : List Frame} {m m₁ : Frame} → ThreadAt ws i a t b
+    → FrameAt t j K₁ m K₂ → Small m → k ≡ startOf i j → (FrameHeld ws k m → Became ws k m₁ ws₁)
+    → ThreadAt ws₁ i a (restacked t (K₁ ++ m₁ ∷ K₂)) b
+frame-changed {ws} {ws₁} {i} {j} {k} {a} {b} {t} {K₁} {K₂} {m} {m₁} h x s e f =
     let c : Became ws k m₁ ws₁ = f (subst⁻¹ (λ (p : ℕ). FrameHeld ws p m) e (frame-held h x s)) in
-    subst⁻¹ (λ (w : List ℤ). ThreadAt w i a t₁ b) (c .words) (frame-replaced h x y (c .small .fits) k e)
+    subst⁻¹ (λ (w : List ℤ). ThreadAt w i a (restacked t (K₁ ++ m₁ ∷ K₂)) b) (c .words) (frame-replaced h x m₁ (c .small .fits) k e)
 
 -- the thread directly behind, at its own place, and back
 module _ {ws : List ℤ} {i : ℕ} {a b : Pool} {t u : Thread} where
@@ -90,41 +91,42 @@ module _ {ws : List ℤ} {i : ℕ} {a b : Pool} {t u : Thread} where
       }
 
 module _ {ws : List ℤ} {i : ℕ} where
-  pub was-pushed : {ws₁ ws₂ ws₃ : List ℤ} {k l : ℕ} (g n c : ℕ) (out : List ℤ) → k ≡ newestAt ws i → l ≡ k + frameWords → Pushed ws i (begin 0 []) ws₁
-      → Begins ws₁ l g n out ws₂ → Jumped ws₂ k c 0 ws₃ → Pushes ws i g n c out ws₃
+  pub was-pushed : {ws₁ ws₂ ws₃ : List ℤ} {k l : ℕ} (g n c : ℕ) (out : List ℤ) → k ≡ newestAt ws i → l ≡ k + frameWords
+      → Pushed ws i (begin 0 []) ws₁ → Begins ws₁ l g n out ws₂ → Jumped ws₂ k c 0 ws₃ → Pushes ws i g n c out ws₃
   was-pushed g n c out e q p f j a t b h s few =
       let x = p a t b h in
       let y = newest-changed x small-empty (omega (arith, e, q, newest-start h, newest-start x)) f in
       let l : Frame = begin g (take n out) in
-      let u : FrameAt (record { newest = l; older = t .newest ∷ t .older }) (length (t .older)) (l ∷ []) (t .newest) (t .older) =
+      let u : FrameAt (restacked t (l ∷ frames t)) (length (t .older)) (l ∷ []) (t .newest) (t .older) =
       record { is = refl; place = refl }
       in
-      frame-changed y u (record { is = refl; place = refl }) s (e ∙ newest-start h) (λ o. j (t .newest) o)
+      frame-changed y u s (e ∙ newest-start h) (λ o. j (t .newest) o)
 
   pub not-pushed : {m : ℕ} (g n c : ℕ) (out : List ℤ) → m ≡ framesIn ws i → mostFrames ≤ m → Pushes ws i g n c out ws
   not-pushed g n c out e o a t b h s few = absurd (omega (arith, e, frames-counted h))
 
-  pub was-popped : {ws₁ ws₂ : List ℤ} {k j : ℕ} (s : List ℕ) (c p : ℕ) (out : List ℤ) → Popped ws i ws₁ → k ≡ newestAt ws i → j ≡ k - frameWords
-      → Arrives s ws₁ j c p out ws₂ → Pops s ws i c p out ws₂
-  was-popped s c p out f e q g a l m K b h o r =
-      let x = f a l m K b h in
+  pub was-popped : {ws₁ ws₂ : List ℤ} {k j : ℕ} (s : List ℕ) (c p : ℕ) (out : List ℤ) → Popped ws i ws₁ → k ≡ newestAt ws i
+      → j ≡ k - frameWords → Arrives s ws₁ j c p out ws₂ → Pops s ws i c p out ws₂
+  was-popped s c p out f e q g a t l m K b h o r =
+      let x = f a t l m K b h in
       newest-changed x o (omega (arith, e, q, newest-start h, newest-start x)) (λ u. g m u r)
 
   pub not-popped : {n : ℕ} (s : List ℕ) (c p : ℕ) (out : List ℤ) → n ≡ framesIn ws i → n ≤ 1 → Pops s ws i c p out ws
-  not-popped s c p out e o a l m K b h u r = absurd (omega (arith, e, frames-counted h))
+  not-popped s c p out e o a t l m K b h u r = absurd (omega (arith, e, frames-counted h))
 
-  pub was-united : {ws₁ ws₂ ws₃ : List ℤ} {k : ℕ} (s : List ℕ) (c p : ℕ) (out : List ℤ) → Removed ws i ws₁ → k ≡ newestAt ws i → k + frameWords ≤ length ws₁
-      → Closes ws₁ k 1 ws₂ → Arrives s ws₂ k c p out ws₃ → Unites s ws i c p out ws₃
+  pub was-united : {ws₁ ws₂ ws₃ : List ℤ} {k : ℕ} (s : List ℕ) (c p : ℕ) (out : List ℤ) → Removed ws i ws₁ → k ≡ newestAt ws i
+      → k + frameWords ≤ length ws₁ → Closes ws₁ k 1 ws₂ → Arrives s ws₂ k c p out ws₃ → Unites s ws i c p out ws₃
   was-united s c p out f e l g j a t u b h z n v r =
       let x = f a t u b h in
-      newest-changed x z (e ∙ newest-start h ∙ sym (newest-start x)) (λ o. both l o (g (t .newest) o n v) (λ y. j (closed (t .newest) (t .newest .promoted - 1)) y r))
+      newest-changed x z (e ∙ newest-start h ∙ sym (newest-start x))
+      (λ o. both l o (g (t .newest) o n v) (λ y. j (closed (t .newest) (t .newest .promoted - 1)) y r))
 
   pub not-united : {m : ℕ} (s : List ℕ) (c p : ℕ) (out : List ℤ) → m ≡ threadsIn ws → m ≤ i + 1 → Unites s ws i c p out ws
   not-united s c p out e o a t u b h z n v r = absurd (omega (arith, e, threads-counted h, h .place))
 
   pub was-spawned : {ws₁ ws₂ ws₃ : List ℤ} {k l : ℕ} (g n : ℕ) (out : List ℤ) → Added ws i (begin 0 []) ws₁ → l ≡ startOf (i + 1) 0
       → Begins ws₁ l g n out ws₂ → Promoted ws₂ k ws₃ → Spawned ws i k g n out ws₃
-  was-spawned g n out p e f r a t b j K₁ m K₂ t′ h w x s q y =
+  was-spawned g n out p e f r a t b j K₁ m K₂ h w x s q =
       let u = next-thread (p a t b h) in
       let v = last-thread (newest-changed u small-empty (e ∙ sym (newest-start u)) f) in
-      frame-changed v x y s w (λ o. r m o q)
+      frame-changed v x s w (λ o. r m o q)

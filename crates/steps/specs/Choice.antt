@@ -1,6 +1,6 @@
 -- What the code decides and answers, in the model's terms, and the contracts: for every program that the places belong to, and
 -- every valid pool that the words hold.
-use Prim.Native.Nat.{ℕ, _+_, _-_, _≤_, _<_}
+use Prim.Native.Nat.{ℕ, _-_, _≤_, _<_}
 use mathlib.Core.Path.{_≡_}
 use mathlib.Core.Bool.{Bool, true, false}
 use mathlib.Core.Option.{some}
@@ -11,17 +11,17 @@ use lib.ListN.{length, getElem?, take}
 use Rattle.model.specs.Lists.{Each}
 use Rattle.model.specs.Syntax.{Program}
 use Rattle.model.specs.Answers.{Refusal, Answer}
-use Rattle.model.specs.Pool.{Frame, Thread, Pool, mostFrames, mostThreads, frames, wordsOf, isPool, arePool}
+use Rattle.model.specs.Pool.{Frame, Thread, Pool, mostFrames, mostThreads, startOf, frames, wordsOf, isPool, arePool}
 use Rattle.model.specs.Rules.{Act, Result, act, ended, promote, choice}
 use Rattle.model.specs.Rules as Rules
 use Rattle.model.specs.Calls.{Called, made}
 use Rattle.model.specs.Valid.{IsPool}
 use Rattle.places.specs.Places.{Places}
-use Rattle.frames.specs.Frame.{Small}
-use Rattle.frames.specs.Held.{startOf, Held, ThreadAt, FrameAt}
+use Rattle.pool.specs.Frame.{Small}
+use Rattle.pool.specs.Held.{Held, ThreadAt, FrameAt}
 use Rattle.eval.specs.declared.Looked.{Looked}
 use Rattle.eval.specs.Given.{lookedAs, filled}
-use Rattle.eval.specs.Code.{most}
+use Rattle.code.specs.Code.{most}
 use Rattle.rules.specs.declared.Acted.{Acted}
 use Rattle.rules.specs.declared.Ended.{Ended}
 use Rattle.rules.specs.declared.Does.{Does}
@@ -125,8 +125,8 @@ pub record DecidedWith (P : Program) (s : List ℕ) (t : Thread) (b : Pool) (w̄
 -- thread i: its newest frame calls, returns n values, waits at a promoted spoin, does anything
 abbrev pub Calls : List ℤ → ℕ → Acted → Acted → Type 0
 Calls ws i d r =
-    (s : List ℕ) (P : Program) (a : Pool) (t : Thread) (b : Pool) → ThreadAt ws i a t b → (out : List ℤ) → Is s (t .newest) out d (act P (t .newest))
-    → d .does ≡ Push → Decided P s t b out r
+    (s : List ℕ) (P : Program) (a : Pool) (t : Thread) (b : Pool) → ThreadAt ws i a t b → (out : List ℤ)
+    → Is s (t .newest) out d (act P (t .newest)) → d .does ≡ Push → Decided P s t b out r
 
 abbrev pub Returns : List ℕ → List ℕ → List ℤ → ℕ → ℕ → Acted → Type 0
 Returns s places ws i n r =
@@ -214,7 +214,7 @@ pub record Ready (s : List ℕ) (ws : List ℤ) (i : ℕ) (a : Pool) (t : Thread
 
 abbrev pub Applied : List ℕ → List ℤ → ℕ → Acted → List ℤ → Made → List ℤ → Type 0
 Applied s ws i d out r ws′ =
-    (a : Pool) (t : Thread) (b : Pool) → Ready s ws i a t b d → Comes ws (before a (effected (t .older) b (decisionOf s t d out))) r ws′
+    (a : Pool) (t : Thread) (b : Pool) → Ready s ws i a t b d → Comes ws (before a (effected t b (decisionOf s t d out))) r ws′
 
 abbrev pub Steps : List ℕ → List ℕ → List ℤ → ℕ → Made → List ℤ → Type 0
 Steps s places ws i r ws′ =

@@ -4,7 +4,7 @@ use mathlib.Core.Path.{_≡_}
 use mathlib.Core.List.{List, [], _∷_, _++_}
 use Rattle.model.specs.Numbers as No
 use Rattle.model.specs.Syntax.{Program}
-use Rattle.model.specs.Pool.{Frame, Thread, Pool}
+use Rattle.model.specs.Pool.{Frame, Thread, Pool, restacked}
 use Rattle.model.specs.Rules.{Result, step}
 
 -- it is refused; the newest frame is replaced, by a rule; the caller and the callee stand for the newest frame; the newest frame
@@ -16,25 +16,25 @@ pub data Decision : Type 0 where
   pop : Frame → Decision
   join : Frame → Decision
 
--- what comes of it, over the older frames and the threads behind
-unfoldable pub popped : List Frame → List Thread → Frame → Result
-popped [] ts k = Result.refused No.ended
-popped (l ∷ K) ts k = Result.made No.return (record { newest = k; older = K } ∷ ts)
+-- what comes of it, for the thread t and the threads behind
+unfoldable pub popped : Thread → List Frame → List Thread → Frame → Result
+popped t [] ts k = Result.refused No.ended
+popped t (l ∷ K) ts k = Result.made No.return (restacked t (k ∷ K) ∷ ts)
 
-unfoldable pub joined : List Frame → List Thread → Frame → Result
-joined K [] k = Result.refused No.waits
-joined K (t ∷ ts) k = Result.made No.prom (record { newest = k; older = K } ∷ ts)
+unfoldable pub joined : Thread → List Thread → Frame → Result
+joined t [] k = Result.refused No.waits
+joined t (u ∷ ts) k = Result.made No.prom (restacked t (k ∷ t .older) ∷ ts)
 
-unfoldable pub effected : List Frame → List Thread → Decision → Result
-effected K ts (Decision.refuse n) = Result.refused n
-effected K ts (Decision.replace rule k) = Result.made rule (record { newest = k; older = K } ∷ ts)
-effected K ts (Decision.push k l) = Result.made No.call (record { newest = l; older = k ∷ K } ∷ ts)
-effected K ts (Decision.pop k) = popped K ts k
-effected K ts (Decision.join k) = joined K ts k
+unfoldable pub effected : Thread → List Thread → Decision → Result
+effected t ts (Decision.refuse n) = Result.refused n
+effected t ts (Decision.replace rule k) = Result.made rule (restacked t (k ∷ t .older) ∷ ts)
+effected t ts (Decision.push k l) = Result.made No.call (restacked t (l ∷ k ∷ t .older) ∷ ts)
+effected t ts (Decision.pop k) = popped t (t .older) ts k
+effected t ts (Decision.join k) = joined t ts k
 
 -- the decision is that of the step
 pub record Decides (P : Program) (t : Thread) (ts : List Thread) (d : Decision) : Type 0 where
-  pub is : step P t ts ≡ effected (t .older) ts d
+  pub is : step P t ts ≡ effected t ts d
 
 -- the threads before
 unfoldable pub before : Pool → Result → Result

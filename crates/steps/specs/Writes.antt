@@ -5,13 +5,12 @@ use mathlib.Core.List.{List, [], _∷_, _++_}
 use lib.IntN.{ℤ}
 use lib.ListN.{length, take}
 use Rattle.model.specs.Lists.{Each}
-use Rattle.model.specs.Pool.{Frame, Thread, Pool, temporaries, mostCalls, mostFrames, frames, begin}
+use Rattle.model.specs.Pool.{Frame, Thread, Pool, temporaries, mostCalls, mostFrames, startOf, frames, born, restacked, begin}
 use Rattle.model.specs.Frames.{goTo, bind, bindAll, deque}
-use Rattle.frames.specs.Frame.{Small}
-use Rattle.frames.specs.Held.{startOf, ThreadAt, FrameAt}
-use Rattle.frames.specs.Edits.{lone}
-use Rattle.frames.specs.InPlace.{FrameHeld, Became}
-use Rattle.eval.specs.Code.{countAt, argumentsAt}
+use Rattle.pool.specs.Frame.{Small}
+use Rattle.pool.specs.Held.{ThreadAt, FrameAt}
+use Rattle.pool.specs.InPlace.{FrameHeld, Became}
+use Rattle.code.specs.Code.{countAt, argumentsAt}
 use Rattle.rules.specs.Acts.{closed}
 
 -- the frame at the head of block b, with values of the buffer for the parameters at an offset
@@ -45,21 +44,22 @@ Shuts ws k b ws′ = (m : Frame) → FrameHeld ws k m → 0 < length (m .calls) 
 abbrev pub Pushes : List ℤ → ℕ → ℕ → ℕ → ℕ → List ℤ → List ℤ → Type 0
 Pushes ws i g n c out ws′ =
     (a : Pool) (t : Thread) (b : Pool) → ThreadAt ws i a t b → Small (t .newest) → length (frames t) < mostFrames
-    → ThreadAt ws′ i a (record { newest = begin g (take n out); older = goTo (t .newest) c 0 ∷ t .older }) b
+    → ThreadAt ws′ i a (restacked t (begin g (take n out) ∷ goTo (t .newest) c 0 ∷ t .older)) b
 
 abbrev pub Pops : List ℕ → List ℤ → ℕ → ℕ → ℕ → List ℤ → List ℤ → Type 0
 Pops s ws i c p out ws′ =
-    (a : Pool) (l m : Frame) (K : List Frame) (b : Pool) → ThreadAt ws i a (record { newest = l; older = m ∷ K }) b → Small m → Temporaries s p
-    → ThreadAt ws′ i a (record { newest = atHead s c p out m; older = K }) b
+    (a : Pool) (t : Thread) (l m : Frame) (K : List Frame) (b : Pool) → ThreadAt ws i a (restacked t (l ∷ m ∷ K)) b → Small m
+    → Temporaries s p → ThreadAt ws′ i a (restacked t (atHead s c p out m ∷ K)) b
 
 abbrev pub Unites : List ℕ → List ℤ → ℕ → ℕ → ℕ → List ℤ → List ℤ → Type 0
 Unites s ws i c p out ws′ =
-    (a : Pool) (t u : Thread) (b : Pool) → ThreadAt ws i a t (u ∷ b) → Small (t .newest) → 0 < length (t .newest .calls) → 0 < t .newest .promoted
-    → Temporaries s p → ThreadAt ws′ i a (record { newest = atHead s c p out (closed (t .newest) (t .newest .promoted - 1)); older = t .older }) b
+    (a : Pool) (t u : Thread) (b : Pool) → ThreadAt ws i a t (u ∷ b) → Small (t .newest)
+    → 0 < length (t .newest .calls) → 0 < t .newest .promoted → Temporaries s p
+    → ThreadAt ws′ i a (restacked t (atHead s c p out (closed (t .newest) (t .newest .promoted - 1)) ∷ t .older)) b
 
--- a thread of function g directly behind thread i, and one more call of its frame at a place promoted
+-- a new thread of function g directly behind thread i, and one more call of its frame at a place promoted
 abbrev pub Spawned : List ℤ → ℕ → ℕ → ℕ → ℕ → List ℤ → List ℤ → Type 0
 Spawned ws i at g n out ws′ =
-    (a : Pool) (t : Thread) (b : Pool) (j : ℕ) (K₁ : List Frame) (k : Frame) (K₂ : List Frame) (t′ : Thread) → ThreadAt ws i a t b
-    → at ≡ startOf i j → FrameAt t j K₁ k K₂ → Small k → k .promoted < 255 → FrameAt t′ j K₁ (deque k (k .calls) (k .promoted + 1)) K₂
-    → ThreadAt ws′ i a t′ (lone (begin g (take n out)) ∷ b)
+    (a : Pool) (t : Thread) (b : Pool) (j : ℕ) (K₁ : List Frame) (k : Frame) (K₂ : List Frame) → ThreadAt ws i a t b
+    → at ≡ startOf i j → FrameAt t j K₁ k K₂ → Small k → k .promoted < 255
+    → ThreadAt ws′ i a (restacked t (K₁ ++ deque k (k .calls) (k .promoted + 1) ∷ K₂)) (born (begin g (take n out)) ∷ b)

@@ -4,7 +4,8 @@ use answers::No;
 use answers::Rule;
 use eval::Looked;
 use eval::Values;
-use frames::Pool;
+use places::Places;
+use pool::Pool;
 use rules::Acted;
 use rules::Does;
 use rules::Ended;
@@ -12,10 +13,11 @@ ghost use mathlib.Core.Path.{_≡_};
 ghost use Prim.Native.Nat.{_+_, _<_, _≤_};
 ghost use lib.ListN.{length};
 ghost use Rattle.model.specs.Pool.{frameWords, mostThreads, poolWords};
-ghost use Rattle.frames.specs.Edits.{threadsIn};
-ghost use Rattle.frames.specs.InPlace.{newestAt};
-ghost use Rattle.eval.specs.Code.{most};
-ghost use Rattle.steps.specs.Choice.{Ends, Brings, Calls, Returns, Joins, DecidesAt, Applied, Steps, Tries, FindsStepper, FindsFirst, FindsOldest, Promotes, Chooses};
+ghost use Rattle.pool.specs.Edits.{threadsIn};
+ghost use Rattle.pool.specs.InPlace.{newestAt};
+ghost use Rattle.code.specs.Code.{most};
+ghost use Rattle.steps.specs.Choice.{Ends, Brings, Calls, Returns, Joins, DecidesAt, Applied, Steps, Tries, FindsStepper, FindsFirst};
+ghost use Rattle.steps.specs.Choice.{FindsOldest, Promotes, Chooses};
 ghost use Rattle.steps.specs.Writes.{Sets, Arrives, Opens, Closes, Shuts, Pushes, Pops, Unites, Spawned};
 
 // The rule by which a choice was made, or its refusal.
@@ -38,19 +40,19 @@ pub enum Stepper {
 }
 
 // How many values thread i gives, in a buffer, if it is ended: its one frame returns.
-fn returned(s: &[u8], places: &[u16; 656], ws: &[i32], i: usize, out: &mut [i32]) -> Ended
+fn returned(s: &[u8], places: &Places, ws: &[i32], i: usize, out: &mut [i32]) -> Ended
     requires { ⌜ (length (now ws) ≡ poolWords) × (i < mostThreads) × (length (now out) ≡ most) ⌝ }
     ensures { λ r. ⌜ Brings (now (s .entry)) (now (places .entry)) (now (ws .entry)) i (now (out .entry)) r (now (out .exit)) ⌝ }
 {
-    if frames::frame_count(ws, i) != 1 {
+    if pool::frame_count(ws, i) != 1 {
         return Ended::Runs;
     }
-    let k = frames::thread_start(i) + 1;
+    let k = pool::thread_start(i) + Pool::FRAMES_AT;
     rules::giving(s, places, ws, k, out)
 }
 
 // The values of thread i, if it is ended.
-pub fn ended(s: &[u8], places: &[u16; 656], ws: &[i32], i: usize) -> Looked
+pub fn ended(s: &[u8], places: &Places, ws: &[i32], i: usize) -> Looked
     requires { ⌜ (length (now ws) ≡ poolWords) × (i < mostThreads) ⌝ }
     ensures { λ r. ⌜ Ends (now (s .entry)) (now (places .entry)) (now (ws .entry)) i r ⌝ }
 {
@@ -76,7 +78,7 @@ fn calling(ws: &[i32], i: usize, a: Acted) -> Acted
     requires { ⌜ (length (now ws) ≡ poolWords) × (i < mostThreads) ⌝ }
     ensures { λ r. ⌜ Calls (now (ws .entry)) i a r ⌝ }
 {
-    if frames::frame_count(ws, i) < Pool::FRAMES {
+    if pool::frame_count(ws, i) < Pool::FRAMES {
         a
     } else {
         rules::refuse(No::FRAMES)
@@ -85,33 +87,25 @@ fn calling(ws: &[i32], i: usize, a: Acted) -> Acted
 
 // A return of n values, by the newest frame, at k: to the frame below, at the block where it waits. With no frame below the thread
 // is ended: 16.
-fn returning(s: &[u8], places: &[u16; 656], ws: &[i32], i: usize, k: usize, n: u8) -> Acted
+fn returning(s: &[u8], places: &Places, ws: &[i32], i: usize, k: usize, n: u8) -> Acted
     requires { ⌜ (length (now ws) ≡ poolWords) × (i < mostThreads) × (k ≡ newestAt (now ws) i) ⌝ }
     ensures { λ r. ⌜ Returns (now (s .entry)) (now (places .entry)) (now (ws .entry)) i n r ⌝ }
 {
-    if frames::frame_count(ws, i) < 2 {
+    if pool::frame_count(ws, i) < 2 {
         return rules::refuse(No::ENDED);
     }
     let l = k - Pool::FRAME_WORDS;
-    let f = frames::function(ws, l);
-    let b = frames::block(ws, l);
+    let f = pool::function(ws, l);
+    let b = pool::block(ws, l);
     rules::enter(s, places, f, b, n, Does::Pop, 0)
 }
 
 // A promoted spoin, with block c behind it: the newest child stands directly behind its parent. 17 where it is not ended.
-fn joining(
-    s: &[u8],
-    places: &[u16; 656],
-    ws: &[i32],
-    i: usize,
-    f: u8,
-    c: u8,
-    out: &mut [i32],
-) -> Acted
+fn joining(s: &[u8], places: &Places, ws: &[i32], i: usize, f: u8, c: u8, out: &mut [i32]) -> Acted
     requires { ⌜ (length (now ws) ≡ poolWords) × (i < mostThreads) × (length (now out) ≡ most) ⌝ }
     ensures { λ r. ⌜ Joins (now (s .entry)) (now (places .entry)) (now (ws .entry)) i f c (now (out .entry)) r (now (out .exit)) ⌝ }
 {
-    let m = frames::thread_count(ws);
+    let m = pool::thread_count(ws);
     if m <= i + 1 {
         return rules::refuse(No::WAITS);
     }
@@ -123,7 +117,7 @@ fn joining(
 }
 
 // What a step of thread i would do, whose newest frame is at k. Nothing is written.
-fn decide(s: &[u8], places: &[u16; 656], ws: &[i32], i: usize, k: usize, out: &mut [i32]) -> Acted
+fn decide(s: &[u8], places: &Places, ws: &[i32], i: usize, k: usize, out: &mut [i32]) -> Acted
     requires { ⌜ (length (now ws) ≡ poolWords) × (i < mostThreads) × (k ≡ newestAt (now ws) i) × (length (now out) ≡ most) ⌝ }
     ensures { λ r. ⌜ DecidesAt (now (s .entry)) (now (places .entry)) (now (ws .entry)) i (now (out .entry)) r (now (out .exit)) ⌝ }
 {
@@ -132,7 +126,7 @@ fn decide(s: &[u8], places: &[u16; 656], ws: &[i32], i: usize, k: usize, out: &m
     match does {
         Does::Push => calling(ws, i, a),
         Does::Pop => returning(s, places, ws, i, k, a.count),
-        Does::Join => joining(s, places, ws, i, frames::function(ws, k), a.number, out),
+        Does::Join => joining(s, places, ws, i, pool::function(ws, k), a.number, out),
         _ => a,
     }
 }
@@ -142,7 +136,7 @@ fn set(ws: &mut [i32], k: usize, x: u8, v: i32)
     requires { ⌜ k + frameWords ≤ length (now ws) ⌝ }
     ensures { λ _. ⌜ Sets (now (ws .entry)) k x v (now (ws .exit)) ⌝ }
 {
-    frames::advance(ws, k);
+    pool::advance(ws, k);
     eval::bind(ws, k, x, v);
 }
 
@@ -151,7 +145,7 @@ fn arrive(s: &[u8], ws: &mut [i32], k: usize, b: u8, parameters: usize, out: &[i
     requires { ⌜ (k + frameWords ≤ length (now ws)) × (length (now out) ≡ most) ⌝ }
     ensures { λ _. ⌜ Arrives (now (s .entry)) (now (ws .entry)) k b parameters (now (out .entry)) (now (ws .exit)) ⌝ }
 {
-    frames::jump(ws, k, b, 0);
+    pool::jump(ws, k, b, 0);
     eval::bind_all(s, parameters, ws, k, out);
 }
 
@@ -160,10 +154,10 @@ fn open_one(ws: &mut [i32], k: usize, call: u8, b: u8)
     requires { ⌜ k + frameWords ≤ length (now ws) ⌝ }
     ensures { λ _. ⌜ Opens (now (ws .entry)) k call b (now (ws .exit)) ⌝ }
 {
-    let n = frames::opened(ws, k);
+    let n = pool::opened(ws, k);
     if (n as usize) < Pool::CALLS {
-        frames::open_call(ws, k, n, call);
-        frames::jump(ws, k, b, 0);
+        pool::open_call(ws, k, n, call);
+        pool::jump(ws, k, b, 0);
     }
 }
 
@@ -172,11 +166,11 @@ fn close_last(ws: &mut [i32], k: usize, joined: u8)
     requires { ⌜ k + frameWords ≤ length (now ws) ⌝ }
     ensures { λ _. ⌜ Closes (now (ws .entry)) k joined (now (ws .exit)) ⌝ }
 {
-    let n = frames::opened(ws, k);
-    let p = frames::promoted(ws, k);
+    let n = pool::opened(ws, k);
+    let p = pool::promoted(ws, k);
     if 0 < n {
         if joined <= p {
-            frames::close_call(ws, k, n - 1, p - joined);
+            pool::close_call(ws, k, n - 1, p - joined);
         }
     }
 }
@@ -187,7 +181,7 @@ fn shut(ws: &mut [i32], k: usize, b: u8)
     ensures { λ _. ⌜ Shuts (now (ws .entry)) k b (now (ws .exit)) ⌝ }
 {
     close_last(ws, k, 0);
-    frames::jump(ws, k, b, 0);
+    pool::jump(ws, k, b, 0);
 }
 
 // The newest frame of thread i, at k, waits at block b for function g, with n values of the buffer.
@@ -195,10 +189,10 @@ fn push(ws: &mut [i32], i: usize, k: usize, g: u8, n: u8, b: u8, out: &[i32])
     requires { ⌜ (length (now ws) ≡ poolWords) × (i < mostThreads) × (k ≡ newestAt (now ws) i) × (length (now out) ≡ most) ⌝ }
     ensures { λ _. ⌜ Pushes (now (ws .entry)) i g n b (now (out .entry)) (now (ws .exit)) ⌝ }
 {
-    if frames::frame_count(ws, i) < Pool::FRAMES {
-        frames::push_frame(ws, i);
+    if pool::frame_count(ws, i) < Pool::FRAMES {
+        pool::push_frame(ws, i);
         eval::begin(ws, k + Pool::FRAME_WORDS, g, n, out);
-        frames::jump(ws, k, b, 0);
+        pool::jump(ws, k, b, 0);
     }
 }
 
@@ -207,8 +201,8 @@ fn pop(s: &[u8], ws: &mut [i32], i: usize, k: usize, b: u8, parameters: usize, o
     requires { ⌜ (length (now ws) ≡ poolWords) × (i < mostThreads) × (k ≡ newestAt (now ws) i) × (length (now out) ≡ most) ⌝ }
     ensures { λ _. ⌜ Pops (now (s .entry)) (now (ws .entry)) i b parameters (now (out .entry)) (now (ws .exit)) ⌝ }
 {
-    if 1 < frames::frame_count(ws, i) {
-        frames::pop_frame(ws, i, k);
+    if 1 < pool::frame_count(ws, i) {
+        pool::pop_frame(ws, i, k);
         arrive(s, ws, k - Pool::FRAME_WORDS, b, parameters, out);
     }
 }
@@ -218,8 +212,8 @@ fn unite(s: &[u8], ws: &mut [i32], i: usize, k: usize, b: u8, parameters: usize,
     requires { ⌜ (length (now ws) ≡ poolWords) × (i < mostThreads) × (k ≡ newestAt (now ws) i) × (length (now out) ≡ most) ⌝ }
     ensures { λ _. ⌜ Unites (now (s .entry)) (now (ws .entry)) i b parameters (now (out .entry)) (now (ws .exit)) ⌝ }
 {
-    if i + 1 < frames::thread_count(ws) {
-        frames::remove_thread(ws, i);
+    if i + 1 < pool::thread_count(ws) {
+        pool::remove_thread(ws, i);
         close_last(ws, k, 1);
         arrive(s, ws, k, b, parameters, out);
     }
@@ -264,12 +258,12 @@ fn apply(s: &[u8], ws: &mut [i32], i: usize, k: usize, d: Acted, out: &[i32]) ->
     }
 }
 
-fn step(s: &[u8], places: &[u16; 656], ws: &mut [i32], i: usize) -> Made
+fn step(s: &[u8], places: &Places, ws: &mut [i32], i: usize) -> Made
     requires { ⌜ (length (now ws) ≡ poolWords) × (i < mostThreads) ⌝ }
     ensures { λ r. ⌜ Steps (now (s .entry)) (now (places .entry)) (now (ws .entry)) i r (now (ws .exit)) ⌝ }
 {
     let mut out = [0i32; Values::MOST];
-    let k = frames::newest_start(ws, i);
+    let k = pool::newest_start(ws, i);
     let d = decide(s, places, ws, i, k, &mut out);
     apply(s, ws, i, k, d, &out)
 }
@@ -280,16 +274,16 @@ fn oldest(ws: &[i32], i: usize) -> Unpromoted
     ensures within { λ r. ⌜ r .at + frameWords ≤ poolWords ⌝ }
     ensures finds { λ r. ⌜ FindsOldest (now (ws .entry)) i r ⌝ }
 {
-    let newest = frames::frame_count(ws, i) - 1;
+    let newest = pool::frame_count(ws, i) - 1;
     let mut j = 0;
     while j <= newest {
-        let k = frames::frame_start(i, j);
-        let p = frames::promoted(ws, k);
-        if p < frames::opened(ws, k) {
+        let k = pool::frame_start(i, j);
+        let p = pool::promoted(ws, k);
+        if p < pool::opened(ws, k) {
             return Unpromoted {
                 ok: true,
                 at: k,
-                call: frames::call(ws, k, p),
+                call: pool::call(ws, k, p),
             };
         }
         j += 1;
@@ -303,16 +297,17 @@ fn oldest(ws: &[i32], i: usize) -> Unpromoted
 
 // A thread of function g, with n values of the buffer, stands directly behind thread i, and a call of its frame at k is promoted.
 fn spawn(ws: &mut [i32], i: usize, k: usize, g: u8, n: u8, out: &[i32])
-    requires { ⌜ (length (now ws) ≡ poolWords) × (i < threadsIn (now ws)) × (threadsIn (now ws) < mostThreads) × (k + frameWords ≤ poolWords) × (length (now out) ≡ most) ⌝ }
+    requires { ⌜ (length (now ws) ≡ poolWords) × (i < threadsIn (now ws)) × (threadsIn (now ws) < mostThreads)
+        × (k + frameWords ≤ poolWords) × (length (now out) ≡ most) ⌝ }
     ensures { λ _. ⌜ Spawned (now (ws .entry)) i k g n (now (out .entry)) (now (ws .exit)) ⌝ }
 {
-    frames::add_thread(ws, i);
-    eval::begin(ws, frames::thread_start(i + 1) + 1, g, n, out);
-    frames::promote_call(ws, k);
+    pool::add_thread(ws, i);
+    eval::begin(ws, pool::thread_start(i + 1) + Pool::FRAMES_AT, g, n, out);
+    pool::promote_call(ws, k);
 }
 
 // The child stands directly behind its parent. 20 where nothing is unpromoted, 21 where all threads are in use, then 19.
-fn promote(s: &[u8], places: &[u16; 656], ws: &mut [i32], i: usize) -> Made
+fn promote(s: &[u8], places: &Places, ws: &mut [i32], i: usize) -> Made
     requires { ⌜ (length (now ws) ≡ poolWords) × (i < threadsIn (now ws)) ⌝ }
     ensures { λ r. ⌜ Promotes (now (s .entry)) (now (places .entry)) (now (ws .entry)) i r (now (ws .exit)) ⌝ }
 {
@@ -320,7 +315,7 @@ fn promote(s: &[u8], places: &[u16; 656], ws: &mut [i32], i: usize) -> Made
     if !o.ok {
         return Made::Refused(No::PROMOTED);
     }
-    if Pool::THREADS <= frames::thread_count(ws) {
+    if Pool::THREADS <= pool::thread_count(ws) {
         return Made::Refused(No::THREADS);
     }
     let mut out = [0i32; Values::MOST];
@@ -336,7 +331,7 @@ fn promote(s: &[u8], places: &[u16; 656], ws: &mut [i32], i: usize) -> Made
 }
 
 // One choice: 14 for a kind above 1, 15 for a thread that is not there.
-pub fn choice(s: &[u8], places: &[u16; 656], ws: &mut [i32], kind: u32, thread: u32) -> Made
+pub fn choice(s: &[u8], places: &Places, ws: &mut [i32], kind: u32, thread: u32) -> Made
     requires { ⌜ length (now ws) ≡ poolWords ⌝ }
     ensures { λ r. ⌜ Chooses (now (s .entry)) (now (places .entry)) (now (ws .entry)) kind thread r (now (ws .exit)) ⌝ }
 {
@@ -344,7 +339,7 @@ pub fn choice(s: &[u8], places: &[u16; 656], ws: &mut [i32], kind: u32, thread: 
         return Made::Refused(No::KIND);
     }
     let i = thread as usize;
-    if frames::thread_count(ws) <= i {
+    if pool::thread_count(ws) <= i {
         return Made::Refused(No::THREAD);
     }
     if kind == 0 {
@@ -355,7 +350,7 @@ pub fn choice(s: &[u8], places: &[u16; 656], ws: &mut [i32], kind: u32, thread: 
 }
 
 // Can thread i step? If it can it has stepped; if not the words are left as they are.
-fn goes(s: &[u8], places: &[u16; 656], ws: &mut [i32], i: u32) -> bool
+fn goes(s: &[u8], places: &Places, ws: &mut [i32], i: u32) -> bool
     requires { ⌜ length (now ws) ≡ poolWords ⌝ }
     ensures { λ r. ⌜ Tries (now (s .entry)) (now (places .entry)) (now (ws .entry)) i r (now (ws .exit)) ⌝ }
 {
@@ -367,11 +362,11 @@ fn goes(s: &[u8], places: &[u16; 656], ws: &mut [i32], i: u32) -> bool
 }
 
 // The first thread that can step, which then has stepped.
-fn first(s: &[u8], places: &[u16; 656], ws: &mut [i32]) -> Stepper
+fn first(s: &[u8], places: &Places, ws: &mut [i32]) -> Stepper
     requires { ⌜ length (now ws) ≡ poolWords ⌝ }
     ensures { λ r. ⌜ FindsFirst (now (s .entry)) (now (places .entry)) (now (ws .entry)) r (now (ws .exit)) ⌝ }
 {
-    let n = frames::thread_count(ws);
+    let n = pool::thread_count(ws);
     let mut i: u32 = 0;
     while (i as usize) < n {
         if goes(s, places, ws, i) {
@@ -383,7 +378,7 @@ fn first(s: &[u8], places: &[u16; 656], ws: &mut [i32]) -> Stepper
 }
 
 // The first thread that can step. It is tried on a copy, so that a choice is the one place where a step is worked.
-pub fn can_step(s: &[u8], places: &[u16; 656], ws: &[i32]) -> Stepper
+pub fn can_step(s: &[u8], places: &Places, ws: &[i32]) -> Stepper
     requires { ⌜ length (now ws) ≡ poolWords ⌝ }
     ensures { λ r. ⌜ FindsStepper (now (s .entry)) (now (places .entry)) (now (ws .entry)) r ⌝ }
 {

@@ -3,3 +3,5 @@ pub mod Rules
 pub mod Marks
 pub mod Placed
 pub mod Answered
+pub mod HandsOn
+pub mod Called

@@ -1,9 +1,8 @@
 -- What passing over a rule of the table answers: the rule's own reading, without its value.
 use Prim.Native.Nat.{ℕ}
-use mathlib.Core.List.{[], _∷_}
-use Rattle.model.specs.Read.{Parsed, Parser, pick}
-use Rattle.model.specs.Read as Read
 use Rattle.model.specs.Syntax.{Transfer}
+use Rattle.model.specs.Read.{Parsed, Parser}
+use Rattle.model.specs.Read as Read
 use Rattle.table.specs.declared.grammar.Skip.{Skip}
 use Rattle.table.specs.declared.grammar.Found.{Found}
 
@@ -15,6 +14,6 @@ unfoldable pub byteOf : Found → Parsed ℕ
 byteOf (Found.Byte b at) = Parsed.ok b at
 byteOf (Found.Wrong place) = Parsed.bad place
 
--- what follows a transfer's kind
-unfoldable pub transferOf : ℕ → Parser Transfer
-transferOf kind = pick (Read.goto ∷ Read.if ∷ Read.call ∷ Read.return ∷ Read.spork ∷ Read.spoin ∷ []) kind
+-- what follows a block's head: its statements, and its transfer
+unfoldable pub body : Parser Transfer
+body = Read._>>=_ (Read.counted 32 Read.statement) λ c. Read.transfer

@@ -1,7 +1,7 @@
 // The rules of document 01's table, each passed over at an offset: where it ends, or the place of the first bad byte.
 ghost use mathlib.Core.Path.{_≡_};
 ghost use Rattle.model.specs.Read as Read;
-ghost use Rattle.table.specs.Skips.{skipOf, byteOf, transferOf};
+ghost use Rattle.table.specs.Skips.{skipOf, byteOf, body};
 
 // A byte and the offset behind it, or the place of the first bad byte.
 pub enum Found {
@@ -66,7 +66,7 @@ pub fn pass(s: &[u8], at: usize, n: usize) -> Skip
     if n == 0 {
         return Skip::At(at);
     }
-    if n <= bytes::left(s, at) {
+    if n <= code::left(s, at) {
         Skip::At(at + n)
     } else {
         Skip::Bad(s.len())
@@ -108,7 +108,7 @@ pub fn expression(s: &[u8], at: usize) -> Skip
                 Skip::At(next) => next,
                 Skip::Bad(p) => return Skip::Bad(p),
             };
-            if bytes::operands(kind) == 2 {
+            if code::operands(kind) == 2 {
                 atom(s, next)
             } else {
                 Skip::At(next)
@@ -185,7 +185,7 @@ pub fn call(s: &[u8], at: usize) -> Skip
 
 // What follows a transfer's kind.
 pub fn transfer_of(s: &[u8], at: usize, kind: usize) -> Skip
-    ensures { λ r. ⌜ r ≡ skipOf (transferOf kind (now (s .entry)) at) ⌝ }
+    ensures { λ r. ⌜ r ≡ skipOf (Read.pick Read.transfers kind (now (s .entry)) at) ⌝ }
 {
     match kind {
         0 => spawn_call(s, at),
@@ -231,16 +231,12 @@ pub fn head(s: &[u8], at: usize) -> Skip
     nesting(s, k)
 }
 
-pub fn block(s: &[u8], at: usize) -> Skip
-    ensures { λ r. ⌜ r ≡ skipOf (Read.block (now (s .entry)) at) ⌝ }
+// What follows a block's head: its statements, and its transfer.
+pub fn body(s: &[u8], at: usize) -> Skip
+    ensures { λ r. ⌜ r ≡ skipOf (body (now (s .entry)) at) ⌝ }
 {
-    let k = match head(s, at) {
-        Skip::At(k) => k,
-        Skip::Bad(p) => return Skip::Bad(p),
-    };
-    let m = match code(s, k) {
-        Skip::At(m) => m,
-        Skip::Bad(p) => return Skip::Bad(p),
-    };
-    transfer(s, m)
+    match code(s, at) {
+        Skip::At(m) => transfer(s, m),
+        Skip::Bad(p) => Skip::Bad(p),
+    }
 }

@@ -2,18 +2,103 @@
 use answers::Answer;
 use answers::No;
 use answers::Refusal;
+use places::Places;
 ghost use mathlib.Core.Path.{_≡_};
-ghost use mathlib.Core.Bool.{true};
 ghost use Rattle.model.specs.Read as Read;
-ghost use Rattle.table.specs.Marks.{nowhere};
-ghost use Rattle.table.specs.Reading.{ReadAs};
+ghost use Rattle.code.specs.Bytes.{byteAt, past, wordAt};
+ghost use Rattle.places.specs.Marks.{nowhere};
+ghost use Rattle.table.specs.Reading.{ReadAs, ReadFrom};
 
 mod grammar;
 mod walk;
 
+// The reader of a table: its bytes and an offset in them.
+pub struct Reader<'a> {
+    pub src: &'a [u8],
+    pub at: usize,
+}
+
+impl<'a> Reader<'a> {
+    pub fn new(src: &'a [u8]) -> Reader<'a>
+        ensures { λ r. ⌜ (r .src ≡ src .entry) × (r .at ≡ 0) ⌝ }
+    {
+        Reader { src, at: 0 }
+    }
+
+    // The number of four bytes where the reader stands.
+    pub fn number(self) -> u32
+        ensures { λ n. ⌜ n ≡ wordAt (now (self .entry .src)) (self .entry .at) ⌝ }
+    {
+        code::word(self.src, self.at)
+    }
+
+    // The byte where the reader stands.
+    pub fn byte(self) -> u8
+        ensures { λ n. ⌜ n ≡ byteAt (now (self .entry .src)) (self .entry .at) ⌝ }
+    {
+        code::byte(self.src, self.at)
+    }
+
+    // The reader n bytes on.
+    pub fn moved(self, n: usize) -> Reader<'a>
+        ensures { λ r. ⌜ (r .src ≡ self .entry .src) × (r .at ≡ past (self .entry .at) n) ⌝ }
+    {
+        let at = code::after(self.at, n);
+        Reader { src: self.src, at }
+    }
+
+    // The functions from where the reader stands, by the length field and the version: 1 to 3, or given.
+    pub fn functions(self, field: u32, version: u8, places: &mut Places) -> Answer
+        ensures { λ r. ⌜ ReadFrom (now (self .entry .src)) (self .entry .at) field version (now (places .entry)) (now (places .exit)) r ⌝ }
+    {
+        tested(self.src, self.at, field, version, places)
+    }
+}
+
+// How many bytes a table takes, by its first four.
+pub fn length_field(s: &[u8]) -> u32
+    ensures { λ r. ⌜ r ≡ wordAt (now (s .entry)) 0 ⌝ }
+{
+    Reader::new(s).number()
+}
+
+// Reads a table: 1 to 3, or given. The places of its program are put into what was there; where it does not read they are none.
+pub fn read(s: &[u8], places: &mut Places) -> Answer
+    ensures { λ r. ⌜ ReadAs (now (s .entry)) (now (places .entry)) (now (places .exit)) r ⌝ }
+{
+    let start = Reader::new(s);
+    let field = start.number();
+    let behind = start.moved(4);
+    let version = behind.byte();
+    behind.moved(1).functions(field, version, places)
+}
+
+// 1, then 2, then 3: by the length field, the version, and the functions from an offset on.
+fn tested(s: &[u8], at: usize, field: u32, version: u8, places: &mut Places) -> Answer
+    ensures { λ r. ⌜ ReadFrom (now (s .entry)) at field version (now (places .entry)) (now (places .exit)) r ⌝ }
+{
+    if sized(s, field) {
+        if version != 1 {
+            return refused(Refusal::Plain(No::VERSION), places);
+        }
+        match walk::program(s, at, places) {
+            grammar::Skip::At(end) => {
+                if end == s.len() {
+                    Answer::Given
+                } else {
+                    refused(Refusal::Byte(end), places)
+                }
+            }
+            grammar::Skip::Bad(place) => refused(Refusal::Byte(place), places),
+        }
+    } else {
+        refused(Refusal::Plain(No::SIZE), places)
+    }
+}
+
 // Whether the size is within the limits, and the length field says it.
-fn sized(s: &[u8]) -> bool
-    ensures { λ r. ⌜ r ≡ Read.sized (now (s .entry)) ⌝ }
+fn sized(s: &[u8], field: u32) -> bool
+    ensures { λ r. ⌜ r ≡ Read.sized (now (s .entry)) field ⌝ }
 {
     if s.len() < 6 {
         return false;
@@ -21,45 +106,13 @@ fn sized(s: &[u8]) -> bool
     if 16384 < s.len() {
         return false;
     }
-    bytes::word(s, 0) as usize == s.len()
+    field as usize == s.len()
 }
 
-// Reads a table: 1 to 3, or given. The places are then those of its program; where it does not read they are none.
-pub fn read(s: &[u8], places: &mut [u16; 656]) -> Answer
-    ensures { λ r. ⌜ ReadAs (now (s .entry)) (now (places .exit)) r ⌝ }
+// A refusal: the places are none.
+fn refused(why: Refusal, places: &mut Places) -> Answer
+    ensures { λ r. ⌜ (r ≡ Answer.Refused why) × (now (places .exit) ≡ nowhere) ⌝ }
 {
-    walk::clear(places);
-    if sized(s) {
-        body(s, places)
-    } else {
-        Answer::Refused(Refusal::Plain(No::SIZE))
-    }
-}
-
-// What follows the length: the version, and the functions up to the table's end.
-fn body(s: &[u8], places: &mut [u16; 656]) -> Answer
-    requires { ⌜ (Read.sized (now s) ≡ true) × (now places ≡ nowhere) ⌝ }
-    ensures { λ r. ⌜ ReadAs (now (s .entry)) (now (places .exit)) r ⌝ }
-{
-    if bytes::byte(s, 4) != 1 {
-        return Answer::Refused(Refusal::Plain(No::VERSION));
-    }
-    match walk::program(s, 5, places) {
-        grammar::Skip::At(end) => {
-            if end == s.len() {
-                Answer::Given
-            } else {
-                bad_byte(end, places)
-            }
-        }
-        grammar::Skip::Bad(place) => bad_byte(place, places),
-    }
-}
-
-// 3, with the offset of the first bad byte; the places are none.
-fn bad_byte(at: usize, places: &mut [u16; 656]) -> Answer
-    ensures { λ r. ⌜ (r ≡ Answer.Refused (Refusal.Byte at)) × (now (places .exit) ≡ nowhere) ⌝ }
-{
-    walk::clear(places);
-    Answer::Refused(Refusal::Byte(at))
+    places::clear(places);
+    Answer::Refused(why)
 }

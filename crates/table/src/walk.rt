@@ -1,43 +1,32 @@
-// The one walk over a table, which also keeps where each function, spawn call and block begins. The places are 656
-// numbers: function f at f, spawn call k of function f at 16 + 8 f + k, block b of function f at 144 + 32 f + b; 65535 for
-// none.
+// The one walk over a table, which also keeps where each function, spawn call and block begins.
 use crate::grammar::Found;
 use crate::grammar::Skip;
 use crate::grammar::byte;
+use places::Places;
 ghost use mathlib.Core.Path.{_≡_};
-ghost use Prim.Native.Nat.{_+_, _≤_, _<_};
+ghost use Prim.Native.Nat.{_≤_, _<_};
 ghost use Rattle.model.specs.Read as Read;
+ghost use Rattle.places.specs.Layout as Layout;
+ghost use Rattle.places.specs.Marks.{markSpawn};
 ghost use Rattle.table.specs.Skips.{skipOf};
-ghost use Rattle.table.specs.Marks.{short, put, marked, functionMarks, programMarks, sizes, sizesOf, Kept, nowhere};
+ghost use Rattle.table.specs.Marks.{marked, along, blockMarks, functionMarks, programMarks, sizes, sizesOf, Kept};
 
 pub enum Sizes {
     Has(usize, usize, usize),
     Lacks(usize),
 }
 
-// A place, as it is kept.
-pub fn short(at: usize) -> u16
-    ensures { λ r. ⌜ r ≡ short at ⌝ }
-{
-    if at < 65535 { at as u16 } else { 65535 }
-}
-
-// No places.
-pub fn clear(places: &mut [u16; 656])
-    ensures { λ _. ⌜ now (places .exit) ≡ nowhere ⌝ }
-{
-    *places = [65535u16; 656];
-}
-
-pub fn spawns(s: &[u8], at: usize, n: usize, i: usize, places: &mut [u16; 656]) -> Skip
-    requires { ⌜ i + n ≤ 656 ⌝ }
-    ensures { λ r. ⌜ (r ≡ skipOf (Read.many Read.spawnCall n (now (s .entry)) at)) × Kept r (now (places .exit)) (marked Read.spawnCall put n (now (s .entry)) at i (now (places .entry))) ⌝ }
+// The spawn calls of function f.
+pub fn spawns(s: &[u8], at: usize, n: usize, f: usize, places: &mut Places) -> Skip
+    requires { ⌜ (f < Layout.functions) × (n ≤ Layout.spawns) ⌝ }
+    ensures { λ r. ⌜ (r ≡ skipOf (Read.many Read.spawnCall n (now (s .entry)) at))
+        × Kept r (now (places .exit)) (marked Read.spawnCall (markSpawn f) n (now (s .entry)) at 0 (now (places .entry))) ⌝ }
 {
     let mut left = n;
     let mut k = at;
-    let mut j = i;
+    let mut j = 0;
     while 0 < left {
-        places[j] = short(k);
+        places::mark_spawn(places, f, j, k);
         let next = match crate::grammar::spawn_call(s, k) {
             Skip::At(next) => next,
             Skip::Bad(p) => return Skip::Bad(p),
@@ -49,19 +38,30 @@ pub fn spawns(s: &[u8], at: usize, n: usize, i: usize, places: &mut [u16; 656]) 
     Skip::At(k)
 }
 
-pub fn blocks(s: &[u8], at: usize, n: usize, i: usize, places: &mut [u16; 656]) -> Skip
-    requires { ⌜ i + n ≤ 656 ⌝ }
-    ensures { λ r. ⌜ (r ≡ skipOf (Read.many Read.block n (now (s .entry)) at)) × Kept r (now (places .exit)) (marked Read.block put n (now (s .entry)) at i (now (places .entry))) ⌝ }
+// The blocks of function f; how long the head before was is kept, since two lengths stand in an entry.
+pub fn blocks(s: &[u8], at: usize, n: usize, f: usize, places: &mut Places) -> Skip
+    requires { ⌜ (f < Layout.functions) × (n ≤ Layout.blocks) ⌝ }
+    ensures { λ r. ⌜ (r ≡ skipOf (Read.many Read.block n (now (s .entry)) at))
+        × Kept r (now (places .exit))
+        (marked Read.block (blockMarks (now (s .entry)) f) n (now (s .entry)) at 0 (along (now (places .entry)) 0) .places) ⌝ }
 {
     let mut left = n;
     let mut k = at;
-    let mut j = i;
+    let mut j = 0;
+    let mut before = 0;
     while 0 < left {
-        places[j] = short(k);
-        let next = match crate::grammar::block(s, k) {
+        places::mark_block(places, f, j, k);
+        let code = match crate::grammar::head(s, k) {
+            Skip::At(code) => code,
+            Skip::Bad(p) => return Skip::Bad(p),
+        };
+        let length = code - k;
+        places::mark_head(places, f, j, before, length);
+        let next = match crate::grammar::body(s, code) {
             Skip::At(next) => next,
             Skip::Bad(p) => return Skip::Bad(p),
         };
+        before = length;
         k = next;
         j += 1;
         left -= 1;
@@ -91,23 +91,26 @@ pub fn numbers(s: &[u8], at: usize) -> Sizes
 }
 
 // Function f: its place, and those of its spawn calls and blocks.
-pub fn function(s: &[u8], at: usize, f: usize, places: &mut [u16; 656]) -> Skip
-    requires { ⌜ f < 16 ⌝ }
-    ensures { λ r. ⌜ (r ≡ skipOf (Read.function (now (s .entry)) at)) × Kept r (now (places .exit)) (functionMarks (now (s .entry)) f at (now (places .entry))) ⌝ }
+pub fn function(s: &[u8], at: usize, f: usize, places: &mut Places) -> Skip
+    requires { ⌜ f < Layout.functions ⌝ }
+    ensures { λ r. ⌜ (r ≡ skipOf (Read.function (now (s .entry)) at))
+        × Kept r (now (places .exit)) (functionMarks (now (s .entry)) f at (now (places .entry))) ⌝ }
 {
-    places[f] = short(at);
+    places::mark_function(places, f, at);
     match numbers(s, at) {
-        Sizes::Has(b, c, k) => match spawns(s, k, c, 16 + 8 * f, places) {
-            Skip::At(m) => blocks(s, m, b, 144 + 32 * f, places),
+        Sizes::Has(b, c, k) => match spawns(s, k, c, f, places) {
+            Skip::At(m) => blocks(s, m, b, f, places),
             Skip::Bad(p) => Skip::Bad(p),
         },
         Sizes::Lacks(p) => Skip::Bad(p),
     }
 }
 
-pub fn functions(s: &[u8], at: usize, n: usize, places: &mut [u16; 656]) -> Skip
-    requires { ⌜ n ≤ 16 ⌝ }
-    ensures { λ r. ⌜ (r ≡ skipOf (Read.many Read.function n (now (s .entry)) at)) × Kept r (now (places .exit)) (marked Read.function (functionMarks (now (s .entry))) n (now (s .entry)) at 0 (now (places .entry))) ⌝ }
+pub fn functions(s: &[u8], at: usize, n: usize, places: &mut Places) -> Skip
+    requires { ⌜ n ≤ Layout.functions ⌝ }
+    ensures { λ r. ⌜ (r ≡ skipOf (Read.many Read.function n (now (s .entry)) at))
+        × Kept r (now (places .exit))
+        (marked Read.function (functionMarks (now (s .entry))) n (now (s .entry)) at 0 (now (places .entry))) ⌝ }
 {
     let mut left = n;
     let mut k = at;
@@ -124,8 +127,9 @@ pub fn functions(s: &[u8], at: usize, n: usize, places: &mut [u16; 656]) -> Skip
     Skip::At(k)
 }
 
-pub fn program(s: &[u8], at: usize, places: &mut [u16; 656]) -> Skip
-    ensures { λ r. ⌜ (r ≡ skipOf (Read.program (now (s .entry)) at)) × Kept r (now (places .exit)) (programMarks (now (s .entry)) at (now (places .entry))) ⌝ }
+pub fn program(s: &[u8], at: usize, places: &mut Places) -> Skip
+    ensures { λ r. ⌜ (r ≡ skipOf (Read.program (now (s .entry)) at))
+        × Kept r (now (places .exit)) (programMarks (now (s .entry)) at (now (places .entry))) ⌝ }
 {
     match byte(s, at, 1, 16) {
         Found::Byte(n, k) => functions(s, k, n, places),

@@ -14,27 +14,30 @@ use Rattle.answers.specs.declared.Answer as Code
 use Rattle.answers.specs.declared.Answer.the-variants.{Given, Refused}
 use Rattle.answers.specs.declared.Refusal as Why
 use Rattle.answers.specs.Answers.{refusalOf, answerOf}
-use Rattle.table.specs.Reading.{PlacedBy, ReadAs}
+use Rattle.places.specs.Marks.{nowhere}
+use Rattle.table.specs.Reading.{ReadAs}
+use Rattle.table.proofs.Answered.{left-places}
 use Rattle.verifier.specs.Verdicts.{Judges}
 use Rattle.verifier.specs.Means.{Means, CheckedAs}
 
 -- what reading answered decides
-module _ (s places : List ℕ) (r : Code.Answer) (h : ReadAs s places r) where
-  pub check-refused : (x : Why.Refusal) → r ≡ Refused x → CheckedAs s places (Refused x)
+module _ (s before places : List ℕ) (r : Code.Answer) (h : ReadAs s before places r) where
+  pub check-refused : (x : Why.Refusal) → r ≡ Refused x → CheckedAs s before places (Refused x)
   unfolding Calls.check Answers.with outcome
-  check-refused x z = record { answer = go (read s) (sym (ap answerOf z) ∙ h .answer); placed = h .placed }
+  check-refused x z = record { answer = λ o. go (read s) (sym (ap answerOf z) ∙ h .answer); placed = h .placed }
     where
       go : (o : Answer Program) → Answer.refused (refusalOf x) ≡ outcome o → Answer.refused (refusalOf x) ≡ Answers.with o judge
       go (Answer.given P) e = refused-given e
       go (Answer.refused y) e = e
 
-  pub check-judged : (j : Code.Answer) → r ≡ Given → Judges s places j → CheckedAs s places j
-  unfolding Calls.check Answers.with outcome PlacedBy
-  check-judged j z q = record { answer = go (read s) (sym (ap answerOf z) ∙ h .answer) (h .placed); placed = h .placed }
+  pub check-judged : (j : Code.Answer) → r ≡ Given → Judges s places j → CheckedAs s before places j
+  unfolding Calls.check Answers.with outcome
+  check-judged j z q =
+      record { answer = λ none. go none (read s) refl (sym (ap answerOf z) ∙ h .answer); placed = h .placed }
     where
-      go : (o : Answer Program) → Answer.given tt ≡ outcome o → PlacedBy s places o → answerOf j ≡ Answers.with o judge
-      go (Answer.given P) e p = sym (q P p)
-      go (Answer.refused x) e p = refused-given (sym e)
+      go : before ≡ nowhere → (o : Answer Program) → read s ≡ o → Answer.given tt ≡ outcome o → answerOf j ≡ Answers.with o judge
+      go none (Answer.given P) is e = sym (q P (left-places s before places P (h .placed) none is))
+      go none (Answer.refused x) is e = refused-given (sym e)
 
 -- the answer is accepted where the case is
 only : (r : Code.Answer) → answerOf r ≡ Answer.given tt → r ≡ Given

@@ -10,7 +10,8 @@ use Rattle.model.specs.Calls.{read, check}
 use Rattle.answers.specs.declared.Answer as Code
 use Rattle.answers.specs.declared.Answer.the-variants.{Given}
 use Rattle.answers.specs.Answers.{answerOf}
-use Rattle.table.specs.Reading.{PlacedBy}
+use Rattle.places.specs.Marks.{nowhere}
+use Rattle.table.specs.Reading.{leaves}
 
 -- the table reads to a program that is well formed by the published rules, as document 01 narrows them
 abbrev pub WellFormed : List ℕ → Type 0
@@ -23,7 +24,7 @@ pub record Means (s : List ℕ) (r : Code.Answer) : Type 0 where
   pub unread : (x : Refusal) → read s ≡ Answer.refused x → answerOf r ≡ Answer.refused x
   pub first : (P : Program) → read s ≡ Answer.given P → answerOf r ≡ firstFault (tests P)
 
--- the check's answer, and the places that it leaves: those of the program that was read; none where none was
-pub record CheckedAs (s places : List ℕ) (r : Code.Answer) : Type 0 where
-  pub answer : answerOf r ≡ check s
-  pub placed : PlacedBy s places (read s)
+-- the check's answer, by the places: none were handed in; and the places that it leaves
+pub record CheckedAs (s before after : List ℕ) (r : Code.Answer) : Type 0 where
+  pub answer : before ≡ nowhere → answerOf r ≡ check s
+  pub placed : after ≡ leaves s 5 before (read s)

@@ -18,31 +18,19 @@ digit : (n x : ℕ) → bitOr n (2 ^ suc x) ≡ bitOr (n / 2) (2 ^ x) * 2 + max 
 digit n x = step n (2 ^ suc x) (2 ^ x) (omega (arith, pow-suc 2 x))
 
 -- the bit is put in where it was not, and changes nothing where it was
-absent : (n x : ℕ) → n / 2 ^ x % 2 ≢ 1 → bitOr n (2 ^ x) ≡ n + 2 ^ x
-absent n zero h =
-    let e : bitOr n 1 ≡ bitOr (n / 2) 0 * 2 + max (n % 2) 1 = step n 1 0 refl in
-    let z : bitOr (n / 2) 0 ≡ n / 2 = or-zero-r (n / 2) in
-    e ∙ ap (λ (k : ℕ). k * 2 + max (n % 2) 1) z ∙ omega arith
-absent n (suc x) h =
-    let h′ : n / 2 / 2 ^ x % 2 ≢ 1 = λ e. h (rw shift e) in
-    digit n x ∙ ap (λ (k : ℕ). k * 2 + max (n % 2) (2 ^ suc x % 2)) (absent (n / 2) x h′) ∙ omega (arith, pow-suc 2 x)
-
-present : (n x : ℕ) → n / 2 ^ x % 2 ≡ 1 → bitOr n (2 ^ x) ≡ n
-present n zero h =
-    let e : bitOr n 1 ≡ bitOr (n / 2) 0 * 2 + max (n % 2) 1 = step n 1 0 refl in
-    let z : bitOr (n / 2) 0 ≡ n / 2 = or-zero-r (n / 2) in
-    e ∙ ap (λ (k : ℕ). k * 2 + max (n % 2) 1) z ∙ omega arith
-present n (suc x) h =
-    let h′ : n / 2 / 2 ^ x % 2 ≡ 1 = rw shift at h in
-    digit n x ∙ ap (λ (k : ℕ). k * 2 + max (n % 2) (2 ^ suc x % 2)) (present (n / 2) x h′) ∙ omega (arith, pow-suc 2 x)
-
 put : (Γ x : ℕ) → bitOr Γ (2 ^ x) ≡ with Γ x
 unfolding with has
-put Γ x = go (has Γ x) refl
+put Γ zero = step Γ 1 0 refl ∙ ap (λ (k : ℕ). k * 2 + max (Γ % 2) 1) (or-zero-r (Γ / 2)) ∙ go (has Γ zero) refl
   where
-    go : (b : Bool) → has Γ x ≡ b → bitOr Γ (2 ^ x) ≡ cond b Γ (Γ + 2 ^ x)
-    go true e = present Γ x (eqb-true _ _ e)
-    go false e = absent Γ x (eqb-false _ _ e)
+    go : (b : Bool) → has Γ zero ≡ b → Γ / 2 * 2 + max (Γ % 2) 1 ≡ cond b Γ (Γ + 1)
+    go true e = omega (arith, eqb-true (Γ / 1 % 2) 1 e)
+    go false e = let h : Γ / 1 % 2 ≢ 1 = eqb-false _ _ e in omega arith
+put Γ (suc x) =
+    digit Γ x ∙ ap (λ (k : ℕ). k * 2 + max (Γ % 2) (2 ^ suc x % 2)) (put (Γ / 2) x) ∙ rw shift (go (has (Γ / 2) x))
+  where
+    go : (b : Bool) → cond b (Γ / 2) (Γ / 2 + 2 ^ x) * 2 + max (Γ % 2) (2 ^ suc x % 2) ≡ cond b Γ (Γ + 2 ^ suc x)
+    go true = omega (arith, pow-suc 2 x)
+    go false = omega (arith, pow-suc 2 x)
 
 pub low : (x : ℕ) → x < 16 → 1 * 2 ^ x % 65536 ≡ 2 ^ x
 low x h =

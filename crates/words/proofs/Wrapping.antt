@@ -6,7 +6,7 @@ use mathlib.Core.Path.{_≡_, refl, sym, ap, _∙_}
 use mathlib.Core.Bool.{Bool, true, false}
 use borrow.Author.Tests.{ltb-true, ltb-false, lt-ltb, le-ltb, ne-eqb}
 use lib.Dec.{eqb, ltb}
-use lib.IntN.{ℤ, pos, negsuc, subℕ, _+ℤ_, _-ℤ_, negℤ, +ℤ-idl}
+use lib.IntN.{ℤ, pos, negsuc, subℕ, _+ℤ_, _-ℤ_, negℤ, +ℤ-idl, -ℤ-+ℤ-cancel}
 use lib.Signed.{ltZ}
 use mir.Syntax.{w32}
 use mir.Val.{toZ, ofZ, SFits}
@@ -94,24 +94,32 @@ low-sum (pos a) (negsuc b) = low-sub a b
 low-sum (negsuc a) (pos b) = low-sub b a ∙ omega arith
 low-sum (negsuc a) (negsuc b) = omega arith
 
-pub low-negated : (b : ℤ) → SFits w32 b → low (negℤ b) ≡ (4294967295 - ofZ w32 b + 1) % 2 ^ 32
+low-small : (z : ℤ) → low z < 2 ^ 32
 unfolding low
-low-negated (pos zero) f = refl
-low-negated (pos (suc n)) f = let h : suc n < 2 ^ 31 = f .sfits in omega arith
-low-negated (negsuc n) f = let h : n < 2 ^ 31 = f .sfits in omega arith
+low-small (pos n) = omega arith
+low-small (negsuc n) = omega arith
 
--- what code that adds the bits gives is the word of the sum; what adds the bits of one and the bits of the other, flipped, and 1, that of the difference
-pub added : (a b r : ℤ) (p q n : ℕ) → SFits w32 a → SFits w32 b → SFits w32 r → p ≡ ofZ w32 (toZ w32 (ofZ w32 a)) → q ≡ ofZ w32 (toZ w32 (ofZ w32 b)) → n ≡ (p + q) % 2 ^ 32 → r ≡ toZ w32 n → toZ w32 (ofZ w32 r) ≡ plus a b
-unfolding plus wrap
-added a b r p q n f g h e₁ e₂ e₃ e₄ =
-    let e : n ≡ low (a +ℤ b) = rw (e₃, e₁, e₂, toZ-ofZ f, toZ-ofZ g, low-sum a b, low-word a f, low-word b g) in
-    toZ-ofZ h ∙ e₄ ∙ ap (toZ w32) e
+-- what code makes of the bits of two words is the word of their sum, and of their difference
+module _
+    {a b : ℤ} (r : ℤ) {p q : ℕ} (n : ℕ) (f : SFits w32 a) (g : SFits w32 b) (h : SFits w32 r)
+    (ea : p ≡ ofZ w32 (toZ w32 (ofZ w32 a))) (eb : q ≡ ofZ w32 (toZ w32 (ofZ w32 b))) (er : r ≡ toZ w32 n)
+  where
+    word-a : p ≡ low a
+    word-a = rw (ea, toZ-ofZ f, low-word a f)
 
-pub subtracted : (a b r : ℤ) (p q m n : ℕ) → SFits w32 a → SFits w32 b → SFits w32 r → p ≡ ofZ w32 (toZ w32 (ofZ w32 a)) → q ≡ ofZ w32 (toZ w32 (ofZ w32 b)) → m ≡ (4294967295 - q + 1) % 2 ^ 32 → n ≡ (p + m) % 2 ^ 32 → r ≡ toZ w32 n → toZ w32 (ofZ w32 r) ≡ wrap (a -ℤ b)
-unfolding wrap
-subtracted a b r p q m n f g h e₁ e₂ e₃ e₄ e₅ =
-    let e : n ≡ low (a -ℤ b) = rw (e₄, e₃, e₁, e₂, toZ-ofZ f, toZ-ofZ g, low-sum a (negℤ b), low-word a f, low-negated b g) in
-    toZ-ofZ h ∙ e₅ ∙ ap (toZ w32) e
+    word-b : q ≡ low b
+    word-b = rw (eb, toZ-ofZ g, low-word b g)
+
+    pub added : n ≡ (p + q) % 2 ^ 32 → toZ w32 (ofZ w32 r) ≡ plus a b
+    unfolding plus wrap
+    added e = let s : n ≡ low (a +ℤ b) = rw (e, word-a, word-b, low-sum a b) in toZ-ofZ h ∙ er ∙ ap (toZ w32) s
+
+    pub subtracted : n < 2 ^ 32 → (n + q) % 2 ^ 32 ≡ p → toZ w32 (ofZ w32 r) ≡ wrap (a -ℤ b)
+    unfolding wrap
+    subtracted small e =
+        let s : n ≡ low (a -ℤ b) =
+        omega (arith, word-a, word-b, low-small (a -ℤ b), low-small b, low-sum (a -ℤ b) b, ap low (-ℤ-+ℤ-cancel a b)) in
+        toZ-ofZ h ∙ er ∙ ap (toZ w32) s
 
 pub zero-minus : (m r : ℤ) → SFits w32 m → SFits w32 r → r ≡ wrap (pos 0 -ℤ toZ w32 (ofZ w32 m)) → toZ w32 (ofZ w32 r) ≡ minus m
 unfolding minus

@@ -37,12 +37,11 @@ pub fn wrapping_add(a: i32, b: i32) -> i32
     signed(std::num::wrapping_add_u32(bits(a), bits(b)))
 }
 
-// a - b, its low 32 bits: the bits of b, negated, are added.
+// a - b, its low 32 bits.
 fn wrapping_sub(a: i32, b: i32) -> i32
     ensures { λ r. ⌜ r ≡ wrap (a -ℤ b) ⌝ }
 {
-    let negative = std::num::wrapping_add_u32(u32::MAX - bits(b), 1);
-    signed(std::num::wrapping_add_u32(bits(a), negative))
+    signed(std::num::wrapping_sub_u32(bits(a), bits(b)))
 }
 
 // -m, its low 32 bits: zero minus m.

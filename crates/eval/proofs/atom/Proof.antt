@@ -7,11 +7,5 @@ use Rattle.eval.proofs.atom.Tie as tie
 pub atom-spec : {M : Type 1} → statement M
 atom-spec =
     tie.close
-    (tie.spec
-    (λ c κs. search needs)
-    (λ c κs. search needs)
-    (λ c κs. search needs)
-    (λ c. search (atom-value, sfits-of))
-    (λ c κs. search needs)
-    (λ c κs. search needs)
-    (λ c. search (atom-temporary)))
+    (tie.spec (λ c κs. search needs) (λ c κs. search needs) (λ c κs. search needs) (λ c. search (atom-value, sfits-of))
+    (λ c κs. search needs) (λ c κs. search needs) (λ c. search (atom-temporary)))

@@ -8,14 +8,14 @@ returns : tie.Need-returns
 returns c =
     let told = c .before in
     let words = told .before .before .words in
-    pool-unlent _ _ _ (words .result) (words .ensures) _ (told .why .given .1)
+    pool-unlent _ _ _ _ (words .result) (words .ensures) _ (told .why .given .1)
 
 returns-2 : tie.Need-returns-2
 returns-2 c =
     let judged = c .before in
     let told = judged .before .before in
     let words = told .before .before .words in
-    pool-given _ _ _ (words .result) (words .ensures) (told .enum-told .given .1) (judged .is-pool .result) (judged .is-pool .ensures)
+    pool-given _ _ _ _ (words .result) (words .ensures) (told .enum-told .given .1) (judged .is-pool .result) (judged .is-pool .ensures)
     (c .if1 .taken)
 
 returns-3 : tie.Need-returns-3
@@ -23,7 +23,7 @@ returns-3 c =
     let judged = c .before in
     let told = judged .before .before in
     let words = told .before .before .words in
-    pool-refused _ _ _ (words .result) (words .ensures) (told .enum-told .given .1) (judged .is-pool .result) (judged .is-pool .ensures)
+    pool-refused _ _ _ _ (words .result) (words .ensures) (told .enum-told .given .1) (judged .is-pool .result) (judged .is-pool .ensures)
     (c .if1 .left)
 
 pub pool-spec : {M : Type 1} → statement M

@@ -8,19 +8,19 @@ returns : tie.Need-returns
 returns c =
     let told = c .before in
     let read = told .before .before .read in
-    words-unread _ _ _ (read .result) (read .ensures) _ (told .why .given .1)
+    words-unread _ _ _ _ (read .result) (read .ensures) _ (told .why .given .1)
 
 returns-2 : tie.Need-returns-2
 returns-2 c =
     let told = c .before in
     let read = told .before .before .read in
-    words-given _ _ _ (read .result) (read .ensures) (told .enum-told .given .1) (c .if1 .taken)
+    words-given _ _ _ _ (read .result) (read .ensures) (told .enum-told .given .1) (c .if1 .taken)
 
 returns-3 : tie.Need-returns-3
 returns-3 c =
     let told = c .before in
     let read = told .before .before .read in
-    words-refused _ _ _ (read .result) (read .ensures) (told .enum-told .given .1) (c .if1 .left)
+    words-refused _ _ _ _ (read .result) (read .ensures) (told .enum-told .given .1) (c .if1 .left)
 
 pub words-spec : {M : Type 1} → statement M
 words-spec =

@@ -1,6 +1,6 @@
 -- `mezdaulk_choose` meets its contract.
 use Rattle.mezdaulk.proofs.Codes.{told, gives}
-use Rattle.machine.specs.Calls.{chosenOf}
+use Rattle.calls.specs.Calls.{chosenOf}
 use Rattle.host.specs.Exports.{ruled}
 use borrow.Author.Needs.{needs}
 use Rattle.mezdaulk.proofs.mezdaulk_choose.Statement.{statement}

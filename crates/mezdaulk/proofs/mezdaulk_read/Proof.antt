@@ -11,4 +11,4 @@ returns c = c .done .ensures ∙ ap Exports.done (c .before .read .ensures .answ
 pub mezdaulk-read-spec : {M : Type 1} → statement M
 mezdaulk-read-spec =
     tie.close
-    (tie.spec (λ c κs. search needs) (λ c κs. search needs) returns)
+    (tie.spec (λ c κs. search needs) (λ c κs. search needs) (λ c κs. search needs) returns)

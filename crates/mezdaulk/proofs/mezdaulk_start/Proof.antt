@@ -1,6 +1,5 @@
 -- `mezdaulk_start` meets its contract.
 use Rattle.mezdaulk.proofs.Codes.{gives}
-use Rattle.answers.specs.Answers.{answerOf}
 use Rattle.host.specs.Exports as Exports
 use borrow.Author.Needs.{needs}
 use Rattle.mezdaulk.proofs.mezdaulk_start.Statement.{statement}

@@ -16,13 +16,15 @@ returns-2 : tie.Need-returns-2
 unfolding counted written
 returns-2 c =
     let told = c .before in
-    values-told _ _ (told .before .before .before .values .ensures) (told .enum-told2 .given .1) (record { number = c .value .ensures; words = refl })
+    values-told _ _ (told .before .before .before .values .ensures) (told .enum-told2 .given .1)
+    (record { number = c .value .ensures; words = refl })
 
 returns-3 : tie.Need-returns-3
 unfolding counted written
 returns-3 c =
     let told = c .before .before in
-    values-told _ _ (told .before .before .before .values .ensures) (told .state .given .1) (record { number = c .code .ensures; words = refl })
+    values-told _ _ (told .before .before .before .values .ensures) (told .state .given .1)
+    (record { number = c .code .ensures; words = refl })
 
 pub mezdaulk-values-spec : {M : Type 1} → statement M
 mezdaulk-values-spec =

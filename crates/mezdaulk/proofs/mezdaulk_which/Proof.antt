@@ -2,7 +2,7 @@
 use native.Mathlib.Omega.{arith}
 use Rattle.mezdaulk.proofs.Codes.{told, finds}
 use Rattle.mezdaulk.proofs.Threads.{which-there}
-use Rattle.machine.specs.Calls.{steppingOf}
+use Rattle.calls.specs.Calls.{steppingOf}
 use Rattle.host.specs.Exports.{stepperOf}
 use borrow.Author.Needs.{needs}
 use Rattle.mezdaulk.proofs.mezdaulk_which.Statement.{statement}

@@ -1,36 +1,40 @@
 -- `rules::call` meets its contract.
-use Rattle.rules.proofs.Heads.{block-at, no-block-at}
-use Rattle.rules.proofs.Steps.{call-unbound, call-missing, call-nowhere, call-goes}
-use denote.Ref.{now}
-use Rattle.frames.specs.InPlace.{frameAt}
-use mathlib.Core.Path.{_∙_}
 use borrow.Author.Needs.{needs}
+use Rattle.rules.proofs.Steps.{call-unbound, call-missing, call-goes, call-nowhere}
 use Rattle.rules.proofs.call.Statement.{statement}
 use Rattle.rules.proofs.call.Tie as tie
+
+returns-3 : tie.Need-returns-3
+returns-3 c =
+    let block = c .before .before .before in
+    let ends = block .before .before .before in
+    let takes = ends .before .before in
+    let args = takes .before .before .before in
+    let look = args .before .before in
+    let start = look .before .before .before .before in
+    call-goes _ _ _ _ _ _ _ _ (look .before .before .after .ensures) (look .look-all .ensures) _ (args .if1 .left)
+    (look .look-all .kept .1 .1 .1 .1 .0) (start .pre .1) (takes .before .before .byte .ensures) (takes .before .count .ensures)
+    (takes .takes .ensures) _ (ends .before .if2 .left) (block .before .function .ensures) (ends .list-end .ensures)
+    (block .before .before .byte2 .ensures) (block .block .ensures) _ (c .before .enum-told .given .1) (c .doing .ensures)
+
+returns-4 : tie.Need-returns-4
+returns-4 c =
+    let block = c .before .before .before in
+    let ends = block .before .before .before in
+    let takes = ends .before .before in
+    let args = takes .before .before .before in
+    let look = args .before .before in
+    let start = look .before .before .before .before in
+    call-nowhere _ _ _ _ _ _ _ _ (look .before .before .after .ensures) (look .look-all .ensures) _ (args .if1 .left)
+    (look .look-all .kept .1 .1 .1 .1 .0) (start .pre .1) (takes .before .before .byte .ensures) (takes .before .count .ensures)
+    (takes .takes .ensures) _ (ends .before .if2 .left) (block .before .function .ensures) (ends .list-end .ensures)
+    (block .before .before .byte2 .ensures) (block .block .ensures) (c .before .enum-told2 .given .1) (c .stuck3 .ensures)
 
 pub call-spec : {M : Type 1} → statement M
 call-spec =
     tie.close
-    (tie.spec
-    (λ c κs. search needs)
-    (λ c κs. search needs)
-    (λ c κs. search needs)
-    (λ c. search needs)
-    (λ c. let a = c .before .before .before .before .before .before .before .args in let m = frameAt (now (a .ws)) (a .k) in call-unbound (now (a .s)) (now (a .places)) m (a .at) _ _ (c .stuck .result) (c .before .before .before .look-all .result) (c .before .before .before .before .before .after .ensures) (c .before .before .before .look-all .ensures) (a .b) (c .before .if1 .taken) (c .stuck .ensures))
-    (λ c κs. search needs)
-    (λ c κs. search needs)
-    (λ c κs. search needs)
-    (λ c κs. search needs)
-    (λ c. search needs)
-    (λ c. let a = c .before .before .before .before .before .before .before .before .before .before .before .args in let m = frameAt (now (a .ws)) (a .k) in call-missing (now (a .s)) (now (a .places)) m (a .at) _ _ (c .stuck2 .result) (c .before .before .before .before .before .before .before .look-all .result) (c .before .before .before .before .before .before .before .before .before .after .ensures) (c .before .before .before .before .before .before .before .look-all .ensures) (a .b) (c .before .before .takes .result) (c .before .before .before .before .before .if1 .left) (c .before .before .before .before .before .before .before .look-all .kept .1 .1 .1 .1 .0 ∙ c .before .before .before .before .before .before .before .before .before .before .before .pre .1) (c .before .before .before .before .byte .ensures) (c .before .before .before .count .ensures) (c .before .before .takes .ensures) (c .before .if2 .taken) (c .stuck2 .ensures))
-    (λ c κs. search needs)
-    (λ c. search needs)
-    (λ c κs. search needs)
-    (λ c. search needs)
-    (λ c κs. search needs)
-    (λ c. search needs)
-    (λ c κs. search needs)
-    (λ c. search needs)
-    (λ c. let a = c .before .before .before .before .before .before .before .before .before .before .before .before .before .before .before .args in let m = frameAt (now (a .ws)) (a .k) in call-goes (now (a .s)) (now (a .places)) m (a .at) _ _ (c .doing .result) (c .before .before .before .before .before .before .before .before .before .before .before .look-all .result) (c .before .before .before .before .before .before .before .before .before .before .before .before .before .after .ensures) (c .before .before .before .before .before .before .before .before .before .before .before .look-all .ensures) (a .b) (c .before .before .before .before .before .before .takes .result) (c .before .before .before .before .before .before .before .before .before .if1 .left) (c .before .before .before .before .before .before .before .before .before .before .before .look-all .kept .1 .1 .1 .1 .0 ∙ c .before .before .before .before .before .before .before .before .before .before .before .before .before .before .before .pre .1) (c .before .before .before .before .before .before .before .before .byte .ensures) (c .before .before .before .before .before .before .before .count .ensures) (c .before .before .before .before .before .before .takes .ensures) _ (c .before .before .before .before .before .if2 .left) (c .before .before .before .before .function .ensures) (block-at _ _ _ (c .before .enum-told .given .1) (c .before .before .before .block .ensures)) (c .doing .ensures))
-    (λ c. search needs)
-    (λ c. let a = c .before .before .before .before .before .before .before .before .before .before .before .before .before .before .before .args in let m = frameAt (now (a .ws)) (a .k) in call-nowhere (now (a .s)) (now (a .places)) m (a .at) _ _ (c .stuck3 .result) (c .before .before .before .before .before .before .before .before .before .before .before .look-all .result) (c .before .before .before .before .before .before .before .before .before .before .before .before .before .after .ensures) (c .before .before .before .before .before .before .before .before .before .before .before .look-all .ensures) (a .b) (c .before .before .before .before .before .before .takes .result) (c .before .before .before .before .before .before .before .before .before .if1 .left) (c .before .before .before .before .before .before .before .before .before .before .before .look-all .kept .1 .1 .1 .1 .0 ∙ c .before .before .before .before .before .before .before .before .before .before .before .before .before .before .before .pre .1) (c .before .before .before .before .before .before .before .before .byte .ensures) (c .before .before .before .before .before .before .before .count .ensures) (c .before .before .before .before .before .before .takes .ensures) (c .before .before .before .before .before .if2 .left) (c .before .before .before .before .function .ensures) (no-block-at _ _ _ (c .before .enum-told2 .given .1) (c .before .before .before .block .ensures)) (c .stuck3 .ensures)))
+    (tie.spec (λ c κs. search needs) (λ c κs. search needs) (λ c κs. search needs) (λ c. search needs)
+    (λ c. search (call-unbound)) (λ c κs. search needs) (λ c κs. search needs) (λ c κs. search needs) (λ c κs. search needs)
+    (λ c. search needs) (λ c. search (call-missing)) (λ c κs. search needs) (λ c κs. search needs) (λ c κs. search needs)
+    (λ c. search needs) (λ c. search needs) (λ c κs. search needs) (λ c. search needs) (λ c κs. search needs)
+    (λ c. search needs) (λ c κs. search needs) (λ c. search needs) returns-3 (λ c. search needs) returns-4)

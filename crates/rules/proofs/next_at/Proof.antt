@@ -7,8 +7,4 @@ use Rattle.rules.proofs.next_at.Tie as tie
 pub next-at-spec : {M : Type 1} → statement M
 next-at-spec =
     tie.close
-    (tie.spec
-    (λ c κs. search needs)
-    (λ c κs. search needs)
-    (λ c. next-among _ _ (c .before .if1 .taken) (c .statements-end .ensures))
-    (λ c. next-behind _ _ (c .before .if1 .left) (c .statements-end2 .ensures)))
+    (tie.spec (λ c κs. search needs) (λ c κs. search needs) (λ c. search (next-among)) (λ c. search (next-behind)))

@@ -1,30 +1,41 @@
 -- `rules::transfer` meets its contract.
-use Rattle.rules.proofs.Steps.{transfer-goto, transfer-call, transfer-return, transfer-ends}
-use denote.Ref.{now}
-use Rattle.frames.specs.InPlace.{frameAt}
 use borrow.Author.Needs.{needs}
+use Rattle.code.specs.Code.{transferOf}
+use Rattle.rules.proofs.Steps.{transfer-by, transfer-last}
 use Rattle.rules.proofs.transfer.Statement.{statement}
 use Rattle.rules.proofs.transfer.Tie as tie
+
+returns : tie.Need-returns
+unfolding transferOf
+returns c =
+    let told = c .before .before .before in
+    let at = told .before in
+    transfer-by _ _ (at .byte .ensures) (at .before .after .ensures) _ _ _ _ _ 0 (told .match .keys1) (c .before .goto .ensures)
+
+returns-2 : tie.Need-returns-2
+unfolding transferOf
+returns-2 c =
+    let told = c .before .before .before in
+    let at = told .before in
+    transfer-by _ _ (at .byte .ensures) (at .before .after .ensures) _ _ _ _ _ 2 (told .match .keys2) (c .before .call .ensures)
+
+returns-3 : tie.Need-returns-3
+unfolding transferOf
+returns-3 c =
+    let told = c .before .before .before in
+    let at = told .before in
+    transfer-by _ _ (at .byte .ensures) (at .before .after .ensures) _ _ _ _ _ 3 (told .match .keys3) (c .before .give-back .ensures _)
+
+returns-4 : tie.Need-returns-4
+unfolding transferOf
+returns-4 c =
+    let told = c .before in
+    let at = told .before in
+    transfer-by _ _ (at .byte .ensures) (at .before .after .ensures) _ _ _ _ _ 4 (told .match .keys4) (c .spork .ensures .is _)
 
 pub transfer-spec : {M : Type 1} → statement M
 transfer-spec =
     tie.close
-    (tie.spec
-    (λ c κs. search needs)
-    (λ c κs. search needs)
-    (λ c κs. search needs)
-    (λ c. search needs)
-    (λ c. let a = c .before .before .before .before .before .before .before .args in let m = frameAt (now (a .ws)) (a .k) in transfer-goto (now (a .s)) (a .at) (c .before .before .before .before .before .byte .ensures) (c .before .before .before .before .after .ensures) (now (a .places)) m _ _ (c .before .goto .result) (c .before .before .before .if1 .taken) (c .before .goto .ensures))
-    (λ c κs. search needs)
-    (λ c κs. search needs)
-    (λ c κs. search needs)
-    (λ c κs. search needs)
-    (λ c. search needs)
-    (λ c. let a = c .before .before .before .before .before .before .before .before .before .before .before .args in let m = frameAt (now (a .ws)) (a .k) in transfer-call (now (a .s)) (a .at) (c .before .before .before .before .before .before .before .before .before .byte .ensures) (c .before .before .before .before .before .before .before .before .after .ensures) (now (a .places)) m _ _ (c .before .call .result) (c .before .before .before .before .before .if2 .taken) (c .before .before .before .before .before .before .after2 .ensures) (c .before .before .before .before .list-end .ensures) (c .before .before .before .byte2 .ensures) (c .before .call .ensures))
-    (λ c κs. search needs)
-    (λ c. search needs)
-    (λ c. let a = c .before .before .before .before .before .before .before .before .before .before .args in let m = frameAt (now (a .ws)) (a .k) in transfer-return (now (a .s)) (a .at) (c .before .before .before .before .before .before .before .before .byte .ensures) (c .before .before .before .before .before .before .before .after .ensures) (now (a .places)) m _ _ (c .before .give-back .result) (c .before .before .before .if3 .taken) (c .before .give-back .ensures))
-    (λ c κs. search needs)
-    (λ c κs. search needs)
-    (λ c κs. search needs)
-    (λ c. let a = c .before .before .before .before .before .before .before .before .before .before .args in let m = frameAt (now (a .ws)) (a .k) in transfer-ends (now (a .s)) (a .at) (c .before .before .before .before .before .before .before .before .byte .ensures) (c .before .before .before .before .before .before .before .after .ensures) (now (a .places)) m _ (c .ends .result) (c .before .before .before .before .before .before .if1 .left) (c .before .before .before .before .if2 .left) (c .before .before .before .if3 .left) (c .before .before .before .before .before .after2 .ensures) (c .before .before .byte3 .ensures) (c .before .byte4 .ensures) (c .ends .ensures)))
+    (tie.spec (λ c κs. search needs) (λ c κs. search needs) (λ c κs. search needs) (λ c κs. search needs) (λ c κs. search needs)
+    (λ c κs. search needs) (λ c κs. search needs) (λ c. search needs) returns (λ c. search needs) returns-2 (λ c. search needs)
+    returns-3 returns-4 (λ c. search (transfer-last)))

@@ -29,7 +29,9 @@ same-length : tie.Need-same-length Inv-loop μ-loop
 same-length c = search needs
 
 returns : tie.Need-returns Inv-loop μ-loop
-returns c = idle-goes (c .before .before .before .before .before .loop .inv .1) _ (c .before .before .goes .result) (c .if1 .taken) (c .before .before .goes .ensures)
+returns c =
+    let at-goes = c .before .before in
+    idle-goes (at-goes .before .before .before .loop .inv .1) _ (at-goes .goes .result) (c .if1 .taken) (at-goes .goes .ensures)
 
 add-i : tie.Need-add-i Inv-loop μ-loop
 add-i c = search needs
@@ -38,7 +40,12 @@ loop-less : tie.Need-loop-less Inv-loop μ-loop
 loop-less c = search needs
 
 loop-again : tie.Need-loop-again Inv-loop μ-loop
-loop-again c = (search needs, idle-more (c .before .before .before .before .before .loop .inv .1) (c .before .before .goes .result) (c .if1 .left) (search needs) (c .before .before .goes .ensures))
+loop-again c =
+    let at-goes = c .before .before in (
+      search needs,
+      idle-more (at-goes .before .before .before .loop .inv .1) (at-goes .goes .result) (c .if1 .left) (search needs)
+          (at-goes .goes .ensures),
+    )
 
 same-length-2 : tie.Need-same-length-2 Inv-loop μ-loop
 same-length-2 c = search needs

@@ -32,7 +32,13 @@ call-requires : tie.Need-call-requires Inv-loop μ-loop
 call-requires c κs = search needs
 
 returns : tie.Need-returns Inv-loop μ-loop
-returns c = (search needs, finds-holder (c .before .before .before .before .frame-start .ensures) (c .before .before .opened .ensures) (c .before .before .before .promoted .ensures) (c .before .before .before .before .before .before .loop .inv .1) (c .call .ensures) (search needs))
+returns c =
+    let at-frame-start = c .before .before .before .before in (
+      search needs,
+      finds-holder (at-frame-start .frame-start .ensures) (c .before .before .opened .ensures)
+          (c .before .before .before .promoted .ensures) (at-frame-start .before .before .loop .inv .1) (c .call .ensures)
+          (search needs),
+    )
 
 add-j : tie.Need-add-j Inv-loop μ-loop
 add-j c = search needs
@@ -41,7 +47,11 @@ loop-less : tie.Need-loop-less Inv-loop μ-loop
 loop-less c = search needs
 
 loop-again : tie.Need-loop-again Inv-loop μ-loop
-loop-again c = (search needs, passed-more (c .before .before .before .frame-start .ensures) (c .before .opened .ensures) (c .before .before .promoted .ensures) (c .before .before .before .before .before .loop .inv .1) (c .if1 .left))
+loop-again c = (
+  search needs,
+  passed-more (c .before .before .before .frame-start .ensures) (c .before .opened .ensures) (c .before .before .promoted .ensures)
+      (c .before .before .before .before .before .loop .inv .1) (c .if1 .left),
+)
 
 returns-2 : tie.Need-returns-2 Inv-loop μ-loop
 returns-2 c = (search needs, finds-none _ _ _ (c .before .loop .inv .1) (search needs))

@@ -4,11 +4,12 @@ use Rattle.steps.proofs.Writing.{was-set}
 use Rattle.steps.proofs.set.Statement.{statement}
 use Rattle.steps.proofs.set.Tie as tie
 
+returns : tie.Need-returns
+returns c =
+    let at-advance = c .before .before .before .before in
+    rw (← toZ-ofZ (at-advance .before .before .fits .v))
+    (was-set (at-advance .before .before .pre) _ _ (at-advance .advance .ensures) (c .before .bind .ensures))
+
 pub set-spec : {M : Type 1} → statement M
 set-spec =
-    tie.close
-    (tie.spec
-    (λ c κs. search needs)
-    (λ c κs. search needs)
-    (λ c. search needs)
-    (λ c. rw (← toZ-ofZ (c .before .before .before .before .before .before .fits .v)) (was-set (c .before .before .before .before .before .before .pre) _ _ (c .before .before .before .before .advance .ensures) (c .before .bind .ensures))))
+    tie.close (tie.spec (λ c κs. search needs) (λ c κs. search needs) (λ c. search needs) returns)

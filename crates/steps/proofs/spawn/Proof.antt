@@ -5,19 +5,16 @@ use Rattle.steps.proofs.Writing.{was-spawned}
 use Rattle.steps.proofs.spawn.Statement.{statement}
 use Rattle.steps.proofs.spawn.Tie as tie
 
+returns : tie.Need-returns
+returns c =
+    let at-begin = c .before .before .before .before in
+    let at-add-thread = at-begin .before .before .before .before in
+    let s = at-add-thread .before .before .args in
+    was-spawned (s .g) (s .n) (now (s .out)) (at-add-thread .add-thread .ensures)
+    (omega (arith, at-begin .before .thread-start .ensures)) (at-begin .begin .ensures) (c .before .promote-call .ensures)
+
 pub spawn-spec : {M : Type 1} → statement M
 spawn-spec =
     tie.close
-    (tie.spec
-    (λ c κs. search needs)
-    (λ c. search needs)
-    (λ c κs. search needs)
-    (λ c. search needs)
-    (λ c κs. search needs)
-    (λ c κs. search needs)
-    (λ c. search needs)
-    (λ c.
-    let s = c .before .before .before .before .before .before .before .before .before .before .args in
-    was-spawned (s .g) (s .n) (now (s .out)) (c .before .before .before .before .before .before .before .before .add-thread .ensures)
-    (omega (arith, c .before .before .before .before .before .thread-start .ensures)) (c .before .before .before .before .begin .ensures)
-    (c .before .promote-call .ensures)))
+    (tie.spec (λ c κs. search needs) (λ c. search needs) (λ c κs. search needs) (λ c. search needs) (λ c κs. search needs)
+    (λ c κs. search needs) (λ c. search needs) returns)

@@ -1,15 +1,18 @@
-use borrow.Author.Needs.{needs}
+-- `table::sized`: test by test.
 use native.Mathlib.Omega.{arith}
 use Rattle.table.proofs.Answered.{too-short, too-long, in-limits}
 use Rattle.table.proofs.sized.Statement.{statement}
 use Rattle.table.proofs.sized.Tie as tie
 
+returns : tie.Need-returns
+returns c = too-short _ _ (c .if1 .taken)
+
+returns-2 : tie.Need-returns-2
+returns-2 c = too-long _ _ (c .before .if1 .left) (c .if2 .taken)
+
+returns-3 : tie.Need-returns-3
+returns-3 c = in-limits _ _ (omega arith) (omega arith)
+
 pub sized-spec : {M : Type 1} → statement M
 sized-spec =
-    tie.close
-    (tie.spec
-    (λ c. too-short _ (c .if1 .taken))
-    (λ c. too-long _ (c .before .if1 .left) (c .if2 .taken))
-    (λ c κs. search needs)
-    (λ c. search needs)
-    (λ c. in-limits _ (omega arith) (omega arith) _ (c .word .ensures)))
+    tie.close (tie.spec returns returns-2 returns-3)

@@ -14,16 +14,21 @@ Inv-loop d₀ at n i₀ d i = (i ≤ n) × Run d₀ at (replicate n (pos 0)) d i
 abbrev μ-loop : tie.MeasureT-loop
 μ-loop d₀ at n i₀ d i = n - i
 
+loop-holds : tie.Need-loop-holds Inv-loop μ-loop
+loop-holds c = (omega arith, none-yet _ _ _)
+
+loop-again : tie.Need-loop-again Inv-loop μ-loop
+loop-again c = (
+  omega arith,
+  one-more (c .before .loop .inv .1) (pos 0) (omega arith) (omega (arith, length-replicate (c .before .before .args .n) (pos 0)))
+      (sym (getD-replicate (c .before .before .args .n) (c .before .loop .i) (pos 0) (pos 0) (omega arith))),
+)
+
+returns : tie.Need-returns Inv-loop μ-loop
+returns c = all-cleared _ (c .before .loop .inv .1) (omega arith)
+
 pub clear-spec : {M : Type 1} → statement M
 clear-spec =
     tie.close
-    (tie.spec Inv-loop μ-loop
-    (λ c. (omega arith, none-yet _ _ _))
-    (λ c. omega arith)
-    (λ c. omega arith)
-    (λ c. omega arith)
-    (λ c. omega arith)
-    (λ c. omega arith)
-    (λ c. (omega arith, one-more (c .before .loop .inv .1) (pos 0) (omega arith) (omega (arith, length-replicate (c .before .before .args .n) (pos 0))) (sym (getD-replicate (c .before .before .args .n) (c .before .loop .i) (pos 0) (pos 0) (omega arith)))))
-    (λ c. omega arith)
-    (λ c. all-cleared _ (c .before .loop .inv .1) (omega arith)))
+    (tie.spec Inv-loop μ-loop loop-holds (λ c. omega arith) (λ c. omega arith) (λ c. omega arith) (λ c. omega arith) (λ c. omega arith)
+    loop-again (λ c. omega arith) returns)

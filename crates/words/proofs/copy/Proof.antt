@@ -14,18 +14,17 @@ Inv-loop d₀ at s i₀ d i = (i ≤ length s) × Run d₀ at s d i
 abbrev μ-loop : tie.MeasureT-loop
 μ-loop d₀ at s i₀ d i = length s - i
 
+loop-holds : tie.Need-loop-holds Inv-loop μ-loop
+loop-holds c = (omega arith, none-yet _ _ _)
+
+loop-again : tie.Need-loop-again Inv-loop μ-loop
+loop-again c = (omega arith, one-more (c .before .before .loop .inv .1) _ (omega arith) (omega arith) (toZ-ofZ (sfits-of (c .d .given))))
+
+returns : tie.Need-returns Inv-loop μ-loop
+returns c = all-pasted (c .before .loop .inv .1) (omega arith)
+
 pub copy-spec : {M : Type 1} → statement M
 copy-spec =
     tie.close
-    (tie.spec Inv-loop μ-loop
-    (λ c. (omega arith, none-yet _ _ _))
-    (λ c. omega arith)
-    (λ c. omega arith)
-    (λ c. omega arith)
-    (λ c. omega arith)
-    (λ c. omega arith)
-    (λ c. omega arith)
-    (λ c. omega arith)
-    (λ c. (omega arith, one-more (c .before .before .loop .inv .1) _ (omega arith) (omega arith) (toZ-ofZ (sfits-of (c .d .given)))))
-    (λ c. omega arith)
-    (λ c. all-pasted (c .before .loop .inv .1) (omega arith)))
+    (tie.spec Inv-loop μ-loop loop-holds (λ c. omega arith) (λ c. omega arith) (λ c. omega arith) (λ c. omega arith) (λ c. omega arith)
+    (λ c. omega arith) (λ c. omega arith) loop-again (λ c. omega arith) returns)

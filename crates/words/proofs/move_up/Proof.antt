@@ -13,19 +13,21 @@ Inv-loop d₀ from to n left₀ d left = (left ≤ n) × Up d₀ from to n d lef
 abbrev μ-loop : tie.MeasureT-loop
 μ-loop d₀ from to n left₀ d left = left
 
+loop-holds : tie.Need-loop-holds Inv-loop μ-loop
+loop-holds c = (omega arith, all-left _ _ _ _)
+
+loop-again : tie.Need-loop-again Inv-loop μ-loop
+loop-again c = (
+  omega arith,
+  one-less (c .before .before .loop .inv .1) _ (omega arith) (omega arith) (omega arith) (omega arith)
+      (toZ-ofZ (sfits-of (c .d .given))),
+)
+
+returns : tie.Need-returns Inv-loop μ-loop
+returns c = none-left (c .before .loop .inv .1) (omega arith)
+
 pub move-up-spec : {M : Type 1} → statement M
 move-up-spec =
     tie.close
-    (tie.spec Inv-loop μ-loop
-    (λ c. (omega arith, all-left _ _ _ _))
-    (λ c. omega arith)
-    (λ c. omega arith)
-    (λ c. omega arith)
-    (λ c. omega arith)
-    (λ c. omega arith)
-    (λ c. omega arith)
-    (λ c. omega arith)
-    (λ c. omega arith)
-    (λ c. (omega arith, one-less (c .before .before .loop .inv .1) _ (omega arith) (omega arith) (omega arith) (omega arith) (toZ-ofZ (sfits-of (c .d .given)))))
-    (λ c. omega arith)
-    (λ c. none-left (c .before .loop .inv .1) (omega arith)))
+    (tie.spec Inv-loop μ-loop loop-holds (λ c. omega arith) (λ c. omega arith) (λ c. omega arith) (λ c. omega arith) (λ c. omega arith)
+    (λ c. omega arith) (λ c. omega arith) (λ c. omega arith) loop-again (λ c. omega arith) returns)

@@ -2,12 +2,11 @@
 use borrow.Author.Needs.{needs}
 use Rattle.model.specs.Read as Read
 use Rattle.table.proofs.Laws.{skips}
-use Rattle.table.specs.Skips.{transferOf}
 use Rattle.table.proofs.grammar.transfer.Statement.{statement}
 use Rattle.table.proofs.grammar.transfer.Tie as tie
 
 pub transfer-spec : {M : Type 1} → statement M
-unfolding Read.transfer transferOf
+unfolding Read.transfer
 transfer-spec =
     tie.close
     (tie.spec

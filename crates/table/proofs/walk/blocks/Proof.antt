@@ -1,22 +1,92 @@
--- `table::walk::blocks`: the loop keeps the place of each as it passes over them one by one.
-use Prim.Native.Nat.{_≤_, _+_}
-use mathlib.Core.Path.{_≡_, refl}
+-- `table::walk::blocks`: the loop keeps the place of each and the length of its head, as it passes over them one by one.
+use Prim.Native.Nat.{_≤_, _<_, _+_}
+use mathlib.Core.Path.{_≡_, refl, sym, ap, _∙_}
+use native.Mathlib.Omega.{arith}
 use borrow.Author.Needs.{needs}
 use Rattle.model.specs.Read as Read
+use Rattle.places.specs.Layout as Layout
 use Rattle.table.specs.Skips.{skipOf}
-use Rattle.table.specs.Marks.{Kept, put, marked}
-use Rattle.table.proofs.Marks.{walks}
+use Rattle.table.specs.Marks.{Kept, Along, marked, along, blockMarks}
+use Rattle.table.proofs.Laws.{many-goes, many-stops, many-ends}
+use Rattle.table.proofs.Marks.{marks-go, marks-end, block-else, block-then, block-kept, kept-bad}
+use Rattle.table.proofs.Placed.{head-takes}
 use Rattle.table.proofs.walk.blocks.Statement.{statement}
 use Rattle.table.proofs.walk.blocks.Tie as tie
 
 abbrev Inv-loop : tie.InvT-loop
-Inv-loop s at n i places₀ left₀ k₀ j₀ places left k j =
+Inv-loop s at n f places₀ left₀ k₀ j₀ before₀ places left k j before =
     (skipOf (Read.many Read.block n s at) ≡ skipOf (Read.many Read.block left s k))
-    × (marked Read.block put n s at i places₀ ≡ marked Read.block put left s k j places)
-    × (j + left ≤ 656)
+    × (marked Read.block (blockMarks s f) n s at 0 (along places₀ 0) ≡ marked Read.block (blockMarks s f) left s k j (along places before))
+    × (j + left ≤ Layout.blocks)
+    × (before < 256)
 
 abbrev μ-loop : tie.MeasureT-loop
-μ-loop s at n i places₀ left₀ k₀ j₀ places left k j = left
+μ-loop s at n f places₀ left₀ k₀ j₀ before₀ places left k j before = left
+
+-- a head is bad
+returns : tie.Need-returns Inv-loop μ-loop
+returns c =
+    let head = c .before .before .before in
+    let loop = head .before .before .before .before .loop in (
+      many-stops _ Read.block _ _ _ _ _ (loop .inv .0) (block-else Read.head _ _ _ (head .head .ensures) _ (c .before .p .given .1))
+          (search needs),
+      kept-bad _ _ _,
+    )
+
+sub-length : tie.Need-sub-length Inv-loop μ-loop
+sub-length c =
+    let head = c .before .before .before in
+    head-takes _ _ _ _ (head .head .ensures) (c .before .code .given .1) .0
+
+mark-head-requires : tie.Need-mark-head-requires Inv-loop μ-loop
+mark-head-requires c κs =
+    let code = c .before .before in
+    let head = code .before .before in
+    let takes = head-takes _ _ _ _ (head .head .ensures) (code .code .given .1) in
+    (search needs, search needs, search needs, omega arith)
+
+-- what follows a head is bad
+returns-2 : tie.Need-returns-2 Inv-loop μ-loop
+returns-2 c =
+    let body = c .before .before .before in
+    let code = body .before .before .before .before in
+    let head = code .before .before in
+    let loop = head .before .before .before .before .loop in (
+      many-stops _ Read.block _ _ _ _ _ (loop .inv .0)
+          (block-then Read.head _ _ _ (head .head .ensures) _ (code .code .given .1) _ (body .body .ensures) ∙ c .before .p2 .given .1)
+          (search needs),
+      kept-bad _ _ _,
+    )
+
+loop-again : tie.Need-loop-again Inv-loop μ-loop
+loop-again c =
+    let body = c .before .before .before in
+    let marks = body .before in
+    let code = marks .before .before .before in
+    let head = code .before .before in
+    let block = head .before in
+    let loop = block .before .before .before .loop in
+    let is = code .code .given .1 in
+    let takes = head-takes _ _ _ _ (head .head .ensures) is in
+    let passed = block-then Read.head _ _ _ (head .head .ensures) _ is _ (body .body .ensures) ∙ c .before .next .given .1 in (
+      many-goes _ Read.block _ _ _ _ _ (loop .inv .0) passed (search needs),
+      marks-go _ _ Read.block _ _ _ _ _ _ _ _ _ (loop .inv .1) passed (search needs)
+          (block-kept Read.head _ _ _ (head .head .ensures) _ is _ _ _ _ _ _ (block .mark-block .ensures) (marks .mark-head .ensures)),
+      search needs,
+      omega arith,
+    )
+
+returns-3 : tie.Need-returns-3 Inv-loop μ-loop
+unfolding Kept
+returns-3 c =
+    let loop = c .before .loop in (
+      many-ends _ Read.block _ _ _ _ (loop .inv .0) (search needs),
+      ap (λ (σ : Along). σ .places) (marks-end _ _ Read.block _ _ _ _ _ _ _ (loop .inv .1) (search needs)),
+    )
+
+loop-holds : tie.Need-loop-holds Inv-loop μ-loop
+unfolding Kept
+loop-holds c = (refl, refl, search needs, search needs)
 
 pub blocks-spec : {M : Type 1} → statement M
 unfolding Kept
@@ -25,16 +95,20 @@ blocks-spec =
     (tie.spec
     Inv-loop
     μ-loop
-    (λ c. (refl, refl, search needs))
+    loop-holds
+    (λ c κs. search needs)
     (λ c κs. search needs)
     (λ c. search needs)
     (λ c. search needs)
+    returns
+    sub-length
+    mark-head-requires
     (λ c κs. search needs)
     (λ c. search needs)
     (λ c. search needs)
-    (λ c. (search walks, tt))
+    returns-2
     (λ c. search needs)
     (λ c. search needs)
     (λ c. search needs)
-    (λ c. (search walks, search walks, search walks))
-    (λ c. (search walks, search walks)))
+    loop-again
+    returns-3)

@@ -18,20 +18,30 @@ Inv-loop s at n places₀ left₀ k₀ f₀ places left k f =
 abbrev μ-loop : tie.MeasureT-loop
 μ-loop s at n places₀ left₀ k₀ f₀ places left k f = left
 
+loop-holds : tie.Need-loop-holds Inv-loop μ-loop
+unfolding Kept
+loop-holds c = (refl, refl, search needs)
+
+returns : tie.Need-returns Inv-loop μ-loop
+unfolding Kept
+returns c = (search walks, tt)
+
+loop-again : tie.Need-loop-again Inv-loop μ-loop
+unfolding Kept
+loop-again c = (
+  search walks,
+  marks-go _ _ _ _ _ _ _ _ _ _ _ _ (c .before .before .before .before .before .before .loop .inv .1) (search walks) (search needs)
+      (kept-at _ _ _ _ (c .before .before .before .function .ensures .1) (c .before .next .given .1)),
+  search walks,
+)
+
+returns-2 : tie.Need-returns-2 Inv-loop μ-loop
+unfolding Kept
+returns-2 c = (search walks, search walks)
+
 pub functions-spec : {M : Type 1} → statement M
 unfolding Kept
 functions-spec =
     tie.close
-    (tie.spec
-    Inv-loop
-    μ-loop
-    (λ c. (refl, refl, search needs))
-    (λ c κs. search needs)
-    (λ c. search needs)
-    (λ c. search needs)
-    (λ c. (search walks, tt))
-    (λ c. search needs)
-    (λ c. search needs)
-    (λ c. search needs)
-    (λ c. (search walks, marks-go _ _ _ _ _ _ _ _ _ _ _ (c .before .before .before .before .before .before .loop .inv .1) (search walks) (search needs) (kept-at _ _ _ _ (c .before .before .before .function .ensures .1) (c .before .next .given .1)), search walks))
-    (λ c. (search walks, search walks)))
+    (tie.spec Inv-loop μ-loop loop-holds (λ c κs. search needs) (λ c. search needs) (λ c. search needs) returns (λ c. search needs)
+    (λ c. search needs) (λ c. search needs) loop-again returns-2)

@@ -1,3 +1,0 @@
-pub mod Offsets
-pub mod Numbers
-pub mod Counts

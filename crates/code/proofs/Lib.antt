@@ -1,0 +1,5 @@
+pub mod Offsets
+pub mod Numbers
+pub mod Counts
+pub mod Ends
+pub mod Decoding

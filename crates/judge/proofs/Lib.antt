@@ -1,8 +1,0 @@
-pub mod Bools
-pub mod FrameWords
-pub mod Runs
-pub mod ThreadWords
-pub mod PoolWords
-pub mod Steps
-pub mod Head
-pub mod Turns

@@ -1,0 +1,3 @@
+pub mod Lookups
+pub mod Nestings
+pub mod Judged

@@ -1,3 +1,0 @@
-pub mod Heads
-pub mod Nestings
-pub mod Judged
