@@ -2,14 +2,16 @@
  *
  * Every call answers a uint64_t. With bit 32 set the call is given, and its value stands in the low 32 bits. Otherwise it is
  * refused: the number stands in bits 0 to 7; for 3 the offset of the first bad byte in bits 8 to 31; for 4 to 11 the block in
- * bits 8 to 15 (255 for main's fault or a spawn call) and the function in bits 16 to 23.
+ * bits 8 to 15 (255 for main's fault or a spawn call) and the function in bits 16 to 23. The macros below read such an answer;
+ * each evaluates its argument once.
  *
  * A table is any bytes and a pool any words: nothing outside the lent memory is read or written, and every call returns. Tables,
  * schedules and pools that are only asked about are never written. No call keeps anything: calls on different pools may run at
  * the same time; two calls on one pool may not, if either of them writes it. Lent regions that a call writes must not overlap
- * others of the same call. With a count of 0 the pointer must still be valid for that type (not NULL).
+ * others of the same call.
  *
- * rt staticlib mezdaulk writes the archive with all seven calls, target/staticlib/libmezdaulk.a.
+ * A pointer with a count beside it (table, pool, choices) must be valid for that many items and aligned for their type. With a
+ * count of 0 it may be anything, NULL too. values and made have no count and must be valid in every call.
  */
 #ifndef MEZDAULK_H
 #define MEZDAULK_H
@@ -21,20 +23,29 @@
 extern "C" {
 #endif
 
+/* The version of this header and its library. */
+#define MEZDAULK_VERSION_MAJOR 0
+#define MEZDAULK_VERSION_MINOR 1
+#define MEZDAULK_VERSION_PATCH 0
+#define MEZDAULK_VERSION "0.1.0"
+
 /* A pool's length in words. */
 #define MEZDAULK_POOL_WORDS 1673
 
-/* An answer is given, or it is a refusal. */
-#define MEZDAULK_GIVEN(answer) (((answer) >> 32) & 1)
+/* An answer is given (1), or it is a refusal (0). */
+#define MEZDAULK_GIVEN(answer) ((int)(((uint64_t)(answer) >> 32) & 1u))
 
 /* The value of a given answer. */
-#define MEZDAULK_VALUE(answer) ((uint32_t)((answer) & 0xFFFFFFFFu))
+#define MEZDAULK_VALUE(answer) ((uint32_t)((uint64_t)(answer) & 0xFFFFFFFFu))
 
 /* The number of a refusal, 1 to 21; the place of a 3; the function and the block of 4 to 11. */
-#define MEZDAULK_NUMBER(answer) ((unsigned)((answer) & 0xFFu))
-#define MEZDAULK_PLACE(answer) ((unsigned)(((answer) >> 8) & 0xFFFFFFu))
-#define MEZDAULK_BLOCK(answer) ((unsigned)(((answer) >> 8) & 0xFFu))
-#define MEZDAULK_FUNCTION(answer) ((unsigned)(((answer) >> 16) & 0xFFu))
+#define MEZDAULK_NUMBER(answer) ((unsigned)((uint64_t)(answer) & 0xFFu))
+#define MEZDAULK_PLACE(answer) ((unsigned)(((uint64_t)(answer) >> 8) & 0xFFFFFFu))
+#define MEZDAULK_BLOCK(answer) ((unsigned)(((uint64_t)(answer) >> 8) & 0xFFu))
+#define MEZDAULK_FUNCTION(answer) ((unsigned)(((uint64_t)(answer) >> 16) & 0xFFu))
+
+/* The block of a fault that lies in none: main's, or a spawn call's. */
+#define MEZDAULK_NOWHERE 255u
 
 /* The kinds of a choice. */
 #define MEZDAULK_STEP 0u
@@ -43,6 +54,44 @@ extern "C" {
 /* The value of mezdaulk_which where no thread can step, and of mezdaulk_values while main's values are open. */
 #define MEZDAULK_NO_THREAD 8u
 #define MEZDAULK_OPEN 255u
+
+/* The numbers of refusals: of the table, */
+#define MEZDAULK_REFUSED_SIZE 1u      /* the table has fewer than 6 or more than 16,384 bytes, or another length field */
+#define MEZDAULK_REFUSED_VERSION 2u   /* the table's version is not 1 */
+#define MEZDAULK_REFUSED_FORM 3u      /* a byte of the table is out of range, missing or left over */
+/* of the check, */
+#define MEZDAULK_REFUSED_MAIN 4u      /* main has parameters */
+#define MEZDAULK_REFUSED_ENTRY 5u     /* an entry block has parameters, a nesting, or another scope than its function's parameters */
+#define MEZDAULK_REFUSED_MISSING 6u   /* a function, block or spawn call that is named does not exist */
+#define MEZDAULK_REFUSED_TWICE 7u     /* a temporary is bound twice */
+#define MEZDAULK_REFUSED_UNBOUND 8u   /* a temporary is used that is not bound there */
+#define MEZDAULK_REFUSED_COUNT 9u     /* a number of arguments or values is not the number taken */
+#define MEZDAULK_REFUSED_SCOPE 10u    /* a scope or a nesting asks for a temporary that is not there */
+#define MEZDAULK_REFUSED_NESTING 11u  /* a nesting is not the one required */
+/* of the pool, */
+#define MEZDAULK_REFUSED_WORDS 12u    /* the pool has not 1,673 words */
+#define MEZDAULK_REFUSED_POOL 13u     /* the words are no pool of this table */
+/* and of a choice. */
+#define MEZDAULK_REFUSED_KIND 14u     /* the kind is neither 0 nor 1 */
+#define MEZDAULK_REFUSED_THREAD 15u   /* there is no such thread */
+#define MEZDAULK_REFUSED_ENDED 16u    /* the thread has ended */
+#define MEZDAULK_REFUSED_WAITS 17u    /* the thread waits for its newest child to end */
+#define MEZDAULK_REFUSED_FRAMES 18u   /* the thread is at a call, and all eight frames are in use */
+#define MEZDAULK_REFUSED_STUCK 19u    /* the thread is stuck: no rule applies */
+#define MEZDAULK_REFUSED_PROMOTED 20u /* the thread has nothing to promote */
+#define MEZDAULK_REFUSED_THREADS 21u  /* there is something to promote, but eight threads are there already */
+
+/* The rules that a choice makes: 1 to 9 by a step, 10 by a promotion. */
+#define MEZDAULK_RULE_STMT 1u     /* a statement */
+#define MEZDAULK_RULE_GOTO 2u     /* a goto */
+#define MEZDAULK_RULE_THEN 3u     /* an if, to its first block */
+#define MEZDAULK_RULE_ELSE 4u     /* an if, to its second block */
+#define MEZDAULK_RULE_CALL 5u     /* a call */
+#define MEZDAULK_RULE_RETURN 6u   /* a return */
+#define MEZDAULK_RULE_SPORK 7u    /* a spork */
+#define MEZDAULK_RULE_UNPR 8u     /* a spoin, unpromoted */
+#define MEZDAULK_RULE_PROM 9u     /* a spoin, promoted: the join, which removes the ended child */
+#define MEZDAULK_RULE_PROMOTE 10u /* a promotion, which puts the child directly after its parent */
 
 /* A choice of a schedule: a kind and a thread, counted from 0. */
 struct mezdaulk_choice {

@@ -25,14 +25,14 @@ static void hold(const char *what, int64_t found, int64_t due) {
 /* An answer that is given, with its value. */
 static void given(const char *call, uint64_t answer, uint32_t value) {
     printf("%s: given %" PRIu32 "\n", call, MEZDAULK_VALUE(answer));
-    hold("given", (int64_t)MEZDAULK_GIVEN(answer), 1);
+    hold("given", MEZDAULK_GIVEN(answer), 1);
     hold("the value", MEZDAULK_VALUE(answer), value);
 }
 
 /* A refusal, with its number. */
 static void refused(const char *call, uint64_t answer, unsigned number) {
     printf("%s: refused %u\n", call, MEZDAULK_NUMBER(answer));
-    hold("given", (int64_t)MEZDAULK_GIVEN(answer), 0);
+    hold("given", MEZDAULK_GIVEN(answer), 0);
     hold("the number", MEZDAULK_NUMBER(answer), number);
 }
 
@@ -56,24 +56,24 @@ int main(void) {
     memcpy(damaged, table, bytes);
     damaged[5] = 0;
     answer = mezdaulk_read(damaged, bytes);
-    refused("read with no function", answer, 3);
+    refused("read with no function", answer, MEZDAULK_REFUSED_FORM);
     hold("the place", MEZDAULK_PLACE(answer), 5);
     given("read", mezdaulk_read(table, bytes), 0);
     given("check", mezdaulk_check(table, bytes), 0);
 
-    refused("start with no words", mezdaulk_start(table, bytes, pool, 0), 12);
+    refused("start with no words", mezdaulk_start(table, bytes, NULL, 0), MEZDAULK_REFUSED_WORDS);
     given("start", mezdaulk_start(table, bytes, pool, words), 0);
     given("which", mezdaulk_which(table, bytes, pool, words), 0);
     given("values", mezdaulk_values(table, bytes, pool, words, values), MEZDAULK_OPEN);
     four(values, -1);
 
-    given("step 0", mezdaulk_choose(table, bytes, pool, words, MEZDAULK_STEP, 0), 7);
-    given("promote 0", mezdaulk_choose(table, bytes, pool, words, MEZDAULK_PROMOTE, 0), 10);
-    refused("step 0", mezdaulk_choose(table, bytes, pool, words, MEZDAULK_STEP, 0), 17);
+    given("step 0", mezdaulk_choose(table, bytes, pool, words, MEZDAULK_STEP, 0), MEZDAULK_RULE_SPORK);
+    given("promote 0", mezdaulk_choose(table, bytes, pool, words, MEZDAULK_PROMOTE, 0), MEZDAULK_RULE_PROMOTE);
+    refused("step 0", mezdaulk_choose(table, bytes, pool, words, MEZDAULK_STEP, 0), MEZDAULK_REFUSED_WAITS);
     given("which", mezdaulk_which(table, bytes, pool, words), 1);
 
     answer = mezdaulk_schedule(table, bytes, pool, words, choices, 3, &made);
-    refused("step 1, step 0, step 0", answer, 16);
+    refused("step 1, step 0, step 0", answer, MEZDAULK_REFUSED_ENDED);
     hold("the number made", (int64_t)made, 2);
     given("which", mezdaulk_which(table, bytes, pool, words), MEZDAULK_NO_THREAD);
     given("values", mezdaulk_values(table, bytes, pool, words, values), 1);

@@ -1,7 +1,28 @@
-// The archive that `rt staticlib mezdaulk` writes.
+//! Links the archive that `rt staticlib mezdaulk` writes.
+
+use std::path::PathBuf;
+use std::process::exit;
+
+const FOLDER: &str = "MEZDAULK_LIB_DIR";
+
 fn main() {
-    let here = std::env::var("CARGO_MANIFEST_DIR").unwrap();
-    println!("cargo:rustc-link-search=native={here}/../../target/staticlib");
+    println!("cargo:rerun-if-env-changed={FOLDER}");
+    let folder = folder();
+    let archive = folder.join("libmezdaulk.a");
+    println!("cargo:rerun-if-changed={}", archive.display());
+    if !archive.is_file() {
+        eprintln!("{} is missing.", archive.display());
+        eprintln!("Run `rt staticlib mezdaulk` in the root of the repository, or set {FOLDER} to the archive's folder.");
+        exit(1);
+    }
+    println!("cargo:rustc-link-search=native={}", folder.display());
     println!("cargo:rustc-link-lib=static=mezdaulk");
-    println!("cargo:rerun-if-changed={here}/../../target/staticlib/libmezdaulk.a");
+}
+
+/// The folder that is set, or the one in this repository.
+fn folder() -> PathBuf {
+    match std::env::var_os(FOLDER) {
+        Some(folder) => folder.into(),
+        None => PathBuf::from(env!("CARGO_MANIFEST_DIR")).join("../../target/staticlib"),
+    }
 }

@@ -3,7 +3,7 @@ use Prim.Native.Nat.{ℕ, _-_, _≤_}
 use mathlib.Core.Path.{_≡_, refl, ap, _∙_}
 use mathlib.Core.Bool.{true, false}
 use mathlib.Core.Option.{Option, none, some}
-use mathlib.Core.List.{List, [], _∷_, _++_}
+use mathlib.Core.List.{List, [], _∷_}
 use native.Mathlib.Omega.{arith}
 use lib.IntN.{ℤ, pos}
 use lib.ListN.{length, getD, replicate}
@@ -11,7 +11,6 @@ use lib.Seq.{take-at}
 use Rattle.model.specs.Lists.{pad}
 use Rattle.model.specs.Answers.{Answer, with}
 use Rattle.model.specs.Syntax.{Program}
-use Rattle.model.specs.Pool.{Thread, Pool}
 use Rattle.model.specs.Rules.{ended, mainValues}
 use Rattle.model.specs.Calls.{Lent, values}
 use Rattle.model.proofs.Facts.{true-false}
@@ -20,13 +19,13 @@ use Rattle.answers.specs.Answers.{refusalOf}
 use Rattle.eval.specs.declared.Looked.{Looked}
 use Rattle.eval.specs.Given.{valuesAs, lookedAs}
 use Rattle.steps.specs.Choice.{Ends}
-use Rattle.steps.proofs.Choosing.{around, some-thread, known-at}
+use Rattle.steps.proofs.Choosing.{around, some-thread, known-at, main-first}
 use Rattle.lend.proofs.Lending.{Lending}
 use Rattle.calls.specs.declared.State.{State}
 use Rattle.calls.specs.declared.State.the-variants.{Given, Open, Refused}
 use Rattle.calls.specs.declared.Main.{Main}
 use Rattle.calls.specs.Calls.{valuesGiven, IsMain}
-use Rattle.calls.proofs.Few.{few-ended}
+use Rattle.model.proofs.Few.{few-ended}
 
 abbrev blank : State → Main
 blank x = record { state = x; count = 0; values = replicate 4 (pos 0) }
@@ -61,12 +60,6 @@ first-four (a ∷ b ∷ []) h = refl
 first-four (a ∷ b ∷ c ∷ []) h = refl
 first-four (a ∷ b ∷ c ∷ d ∷ []) h = refl
 first-four (a ∷ b ∷ c ∷ d ∷ e ∷ v̄) h = absurd (omega arith)
-
--- main is the first thread
-main-first : (P : Program) (a : Pool) (t : Thread) (b : Pool) → length a ≡ 0 → mainValues P (a ++ t ∷ b) ≡ ended P t
-unfolding mainValues
-main-first P [] t b h = refl
-main-first P (u ∷ a) t b h = absurd (omega arith)
 
 -- what main's thread comes to
 pub record MainThread (P : Program) (o : Looked) (v : Answer (Option (List ℤ))) : Type 0 where

@@ -1,3 +1,2 @@
-pub mod Few
 pub mod Lent
 pub mod Ended

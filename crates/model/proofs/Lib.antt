@@ -6,8 +6,10 @@ pub mod Accepted
 pub mod Sets
 pub mod Members
 pub mod Runs
+pub mod Printed
 pub mod Valid
 pub mod Words
 pub mod Kept
+pub mod Few
 pub mod Schedules
 pub mod Numbers

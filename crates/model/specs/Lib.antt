@@ -14,4 +14,6 @@ pub mod Valid
 pub mod Frames
 pub mod Rules
 pub mod Calls
+pub mod Text
+pub mod Output
 pub mod Limits

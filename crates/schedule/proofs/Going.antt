@@ -11,12 +11,11 @@ use Rattle.model.specs.Answers.{Refusal, Answer}
 use Rattle.model.specs.Syntax.{Program}
 use Rattle.model.specs.Pool.{Pool, wordsOf, isPool}
 use Rattle.model.specs.Rules.{Result, choice}
-use Rattle.model.specs.Calls.{Choice, Ran, Called, made, oneMore, goOn, run, stopped, reported}
-use Rattle.model.proofs.Facts.{refused-given}
-use Rattle.model.proofs.Kept.{choice-kept}
+use Rattle.model.specs.Calls.{Choice, Ran, oneMore, goOn, run, stopped, reported}
 use Rattle.places.specs.Places.{Places}
 use Rattle.steps.specs.declared.Made.the-variants.{Rule, Refused}
 use Rattle.steps.specs.Choice.{Chooses}
+use Rattle.steps.proofs.Choosing.{chose-made, chose-refused}
 use Rattle.schedule.specs.declared.Ran.the-variants.{All, Stopped}
 use Rattle.schedule.specs.Runs.{endedOf, scheduledOf, Runs}
 
@@ -32,27 +31,6 @@ pub record GoesOn (P : Program) (p : Pool) (cs : List Choice) (n : ℕ) (ws′ :
 
 pub record Going (s places : List ℕ) (ws : List ℤ) (cs : List Choice) (n : ℕ) (ws′ : List ℤ) (rest : List Choice) : Type 0 where
   pub at : (P : Program) (p : Pool) → Places s P places → ws ≡ wordsOf p → isPool P p ≡ true → GoesOn P p cs n ws′ rest
-
--- what a choice on words says of the choice itself: it was made, or it was refused
-answer-given : (ws ws′ : List ℤ) (rule : ℕ) (x : Result)
-    → _≡_ {A = Called ℕ} (record { answer = Answer.given rule; after = ws′ }) (made ws x)
-    → (p : Pool) × (x ≡ Result.made rule p) × (ws′ ≡ wordsOf p)
-unfolding made
-answer-given ws ws′ rule (Result.made k p) e =
-    let a : _≡_ {A = Answer ℕ} (Answer.given rule) (Answer.given k) = ap (λ (c : Called ℕ). c .answer) e in
-    let r : rule ≡ k = cc in
-    (p, ap (λ (m : ℕ). Result.made m p) (sym r), ap (λ (c : Called ℕ). c .after) e)
-answer-given ws ws′ rule (Result.refused n) e = refused-given (sym (ap (λ (c : Called ℕ). c .answer) e))
-
-answer-refused : (ws ws′ : List ℤ) (n : ℕ) (x : Result)
-    → _≡_ {A = Called ℕ} (record { answer = Answer.refused (Refusal.plain n); after = ws′ }) (made ws x)
-    → (x ≡ Result.refused n) × (ws′ ≡ ws)
-unfolding made
-answer-refused ws ws′ n (Result.made k p) e = refused-given (ap (λ (c : Called ℕ). c .answer) e)
-answer-refused ws ws′ n (Result.refused k) e =
-    let a : _≡_ {A = Answer ℕ} (Answer.refused (Refusal.plain n)) (Answer.refused (Refusal.plain k)) = ap (λ (c : Called ℕ). c .answer) e in
-    let r : n ≡ k = cc in
-    (ap Result.refused (sym r), ap (λ (c : Called ℕ). c .after) e)
 
 -- a run by its first choice, over any result of it
 run-made : (P : Program) (p p′ : Pool) (c : Choice) (cs : List Choice) {rule : ℕ} → choice P p (c .kind) (c .thread) ≡ Result.made rule p′
@@ -92,12 +70,13 @@ module _ {s places : List ℕ} {ws : List ℤ} {cs : List Choice} where
       where
         one : (P : Program) (p : Pool) → Places s P places → GoesOn P p cs n ws′ (c ∷ rest) → GoesOn P p cs (n + 1) ws″ rest
         one P p t q =
-            let z = answer-given ws′ ws″ rule (choice P (q .pool) (c .kind) (c .thread)) (h P (q .pool) t (q .words) (q .valid) .called) in
+            let z = chose-made P (q .pool) ws′ (c .kind)
+            (c .thread) ws″ rule (t .limits) (q .valid) (h P (q .pool) t (q .words) (q .valid)) in
             record {
-              pool = z .0;
-              words = z .2;
-              valid = choice-kept P (t .limits) (q .pool) (z .0) (c .kind) (c .thread) rule (q .valid) (z .1);
-              left = q .left ∙ ap (moreBy n) (run-made P (q .pool) (z .0) c rest (z .1)) ∙ more-by n (run P (z .0) rest);
+              pool = z .pool;
+              words = z .words;
+              valid = z .valid;
+              left = q .left ∙ ap (moreBy n) (run-made P (q .pool) (z .pool) c rest (z .is)) ∙ more-by n (run P (z .pool) rest);
             }
 
     pub going-refused : {number : ℕ} → Chooses s places ws′ (c .kind) (c .thread) (Refused number) ws″
@@ -107,8 +86,7 @@ module _ {s places : List ℕ} {ws : List ℤ} {cs : List Choice} where
         one : (P : Program) (p : Pool) → Places s P places → GoesOn P p cs n ws′ (c ∷ rest)
             → scheduledOf (endedOf (Stopped n number)) ws″ ≡ reported (run P p cs)
         one P p t q =
-            let z =
-            answer-refused ws′ ws″ number (choice P (q .pool) (c .kind) (c .thread)) (h P (q .pool) t (q .words) (q .valid) .called) in
+            let z = chose-refused P (q .pool) ws′ (c .kind) (c .thread) ws″ number (h P (q .pool) t (q .words) (q .valid)) in
             stopped-report n number ws″ (q .pool) (z .1 ∙ q .words) ∙
             sym (ap reported (q .left ∙ ap (moreBy n) (run-refused P (q .pool) c rest (z .0))))
 

@@ -1,6 +1,6 @@
 -- A choice on words is the model's choice, and the words are a pool of the table afterwards.
 use Prim.Native.Nat.{ℕ, zero, suc, _≤_, _<_}
-use mathlib.Core.Path.{_≡_, refl, ap, subst, _∙_}
+use mathlib.Core.Path.{_≡_, refl, sym, ap, subst, _∙_}
 use mathlib.Core.Bool.{true, false}
 use mathlib.Core.List.{List, [], _∷_, _++_}
 use native.Mathlib.Omega.{arith}
@@ -11,9 +11,10 @@ use Rattle.model.specs.Numbers as No
 use Rattle.model.specs.Syntax.{Program}
 use Rattle.model.specs.Limits.{Limits}
 use Rattle.model.specs.Pool.{Thread, Pool, mostThreads, wordsOf, trees, isPool}
-use Rattle.model.specs.Rules.{Result, step, promote, onThread, choice}
-use Rattle.model.specs.Calls.{made}
-use Rattle.model.proofs.Facts.{true-false}
+use Rattle.model.specs.Answers.{Refusal, Answer}
+use Rattle.model.specs.Rules.{Result, ended, step, promote, onThread, choice, mainValues}
+use Rattle.model.specs.Calls.{Called, made}
+use Rattle.model.proofs.Facts.{refused-given, true-false}
 use Rattle.model.specs.Valid.{IsPool}
 use Rattle.model.proofs.Valid.{pool-facts}
 use Rattle.model.proofs.Words.{pool-fits, words-valid}
@@ -23,9 +24,11 @@ use Rattle.pool.specs.Held.{Held, ThreadAt}
 use Rattle.pool.specs.Edits.{threadsIn}
 use Rattle.pool.proofs.Steps.{threads-counted}
 use Rattle.steps.specs.declared.Made.{Made}
-use Rattle.steps.specs.declared.Made.the-variants.{Refused}
+use Rattle.eval.specs.declared.Looked.{Looked}
+use Rattle.eval.specs.Given.{lookedAs}
+use Rattle.steps.specs.declared.Made.the-variants.{Rule, Refused}
 use Rattle.steps.specs.Decision.{before}
-use Rattle.steps.specs.Choice.{Known, Comes, Steps, Promotes, Chose, Chooses}
+use Rattle.steps.specs.Choice.{Known, Ends, Comes, Steps, Promotes, Chose, Chooses}
 use Rattle.steps.proofs.Effects.{on-thread, on-none}
 
 -- a pool around its thread i
@@ -128,3 +131,57 @@ module _ {s places : List ℕ} {ws : List ℤ} {kind thread : ℕ} where
         (x .place)
         in
         comes-chose P p w v (q .limits) (rw e (f P (x .front) (x .thread) (x .back) (known-at P p w v q x)))
+
+-- what a choice on words says of the choice itself: it was made, or it was refused
+pub record MadeBy (P : Program) (p : Pool) (kind thread rule : ℕ) (ws′ : List ℤ) : Type 0 where
+  pub pool : Pool
+  pub is : choice P p kind thread ≡ Result.made rule pool
+  pub words : ws′ ≡ wordsOf pool
+  pub valid : isPool P pool ≡ true
+
+module _ (P : Program) (p : Pool) (ws : List ℤ) (kind thread : ℕ) (ws′ : List ℤ) where
+  pub chose-made : (rule : ℕ) → Limits P → isPool P p ≡ true → Chose P p ws kind thread (Rule rule) ws′ → MadeBy P p kind thread rule ws′
+  unfolding made
+  chose-made rule l v h = go (choice P p kind thread) refl (h .called)
+    where
+      go : (x : Result) → choice P p kind thread ≡ x
+          → _≡_ {A = Called ℕ} (record { answer = Answer.given rule; after = ws′ }) (made ws x) → MadeBy P p kind thread rule ws′
+      go (Result.made k p′) q e =
+          let a : _≡_ {A = Answer ℕ} (Answer.given rule) (Answer.given k) = ap (λ (c : Called ℕ). c .answer) e in
+          let r : k ≡ rule = cc in
+          let is : choice P p kind thread ≡ Result.made rule p′ = q ∙ ap (λ (m : ℕ). Result.made m p′) r in
+          record {
+            pool = p′;
+            is = is;
+            words = ap (λ (c : Called ℕ). c .after) e;
+            valid = choice-kept P l p p′ kind thread rule v is;
+          }
+      go (Result.refused n) q e = refused-given (sym (ap (λ (c : Called ℕ). c .answer) e))
+
+  pub chose-refused : (n : ℕ) → Chose P p ws kind thread (Refused n) ws′ → (choice P p kind thread ≡ Result.refused n) × (ws′ ≡ ws)
+  unfolding made
+  chose-refused n h = go (choice P p kind thread) refl (h .called)
+    where
+      go : (x : Result) → choice P p kind thread ≡ x
+          → _≡_ {A = Called ℕ} (record { answer = Answer.refused (Refusal.plain n); after = ws′ }) (made ws x)
+          → (choice P p kind thread ≡ Result.refused n) × (ws′ ≡ ws)
+      go (Result.made k p′) q e = refused-given (ap (λ (c : Called ℕ). c .answer) e)
+      go (Result.refused k) q e =
+          let a : _≡_ {A = Answer ℕ} (Answer.refused (Refusal.plain n)) (Answer.refused (Refusal.plain k)) =
+          ap (λ (c : Called ℕ). c .answer) e in
+          let r : k ≡ n = cc in
+          (q ∙ ap Result.refused r, ap (λ (c : Called ℕ). c .after) e)
+
+-- main is the first thread
+pub main-first : (P : Program) (a : Pool) (t : Thread) (b : Pool) → length a ≡ 0 → mainValues P (a ++ t ∷ b) ≡ ended P t
+unfolding mainValues
+main-first P [] t b h = refl
+main-first P (u ∷ a) t b h = absurd (omega arith)
+
+-- what the first thread gives are main's values
+pub main-looked : (s places : List ℕ) (ws : List ℤ) (o : Looked) (P : Program) (p : Pool) → Ends s places ws 0 o → Places s P places
+    → ws ≡ wordsOf p → isPool P p ≡ true → o ≡ lookedAs (mainValues P p)
+main-looked s places ws o P p f q w v =
+    let x = around p 0 (some-thread P p w v) in
+    f P (x .front) (x .thread) (x .back) (known-at P p w v q x)
+    ∙ ap lookedAs (sym (ap (mainValues P) (x .is) ∙ main-first P (x .front) (x .thread) (x .back) (x .place)))

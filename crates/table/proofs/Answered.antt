@@ -127,7 +127,7 @@ module _ (s : List ℕ) (bytes : (i : ℕ) → getD s i 0 < 256) where
   unfolding word wordAt next
   word-is h = rw (half-is 0 (omega arith), half-is 2 (omega arith))
 
-  field-is : 4 ≤ length s → lengthField s ≡ wordAt s 0
+  pub field-is : 4 ≤ length s → lengthField s ≡ wordAt s 0
   unfolding lengthField orZero
   field-is h = ap orZero (word-is h)
 

@@ -10,6 +10,7 @@ mod tables;
 use clock::{duel, show, Duel};
 use fast::POOL_WORDS;
 use looping::Looping;
+use mezdaulk::lent;
 use oracle::table::TABLE_MAX;
 use std::hint::black_box;
 
@@ -116,7 +117,7 @@ fn choose(run: &Looping) -> Duel {
         || {
             left.copy_from_slice(&start);
             for choice in &run.choices[..SINGLE] {
-                let made = mezdaulk::choose(&run.table, &mut left, choice.kind, choice.thread);
+                let made = lent::choose(&run.table, &mut left, *choice);
                 assert!(made.is_ok());
             }
         },
@@ -139,7 +140,7 @@ fn which(run: &Looping) -> Duel {
     duel(
         || {
             for pool in &pools {
-                assert!(mezdaulk::which(&run.table, black_box(pool)).is_ok());
+                assert!(lent::which(&run.table, black_box(pool)).is_ok());
             }
         },
         || {
@@ -158,7 +159,7 @@ fn values(run: &Looping) -> Duel {
     duel(
         || {
             for pool in &pools {
-                let open = mezdaulk::values_into(&run.table, black_box(pool), &mut room);
+                let open = lent::values(&run.table, black_box(pool), &mut room);
                 assert_eq!(open, Ok(None));
             }
         },
@@ -175,19 +176,19 @@ fn values(run: &Looping) -> Duel {
 /// All choices of a run, as one schedule.
 fn schedule(run: &Looping) -> Duel {
     let start = run.start();
-    let count = run.choices.len() as u64;
+    let count = run.choices.len();
     let fast_choices = run.fast_choices();
     let (mut left, mut right) = (start.clone(), start.clone());
     let duel = duel(
         || {
             left.copy_from_slice(&start);
-            let made = mezdaulk::schedule(&run.table, &mut left, &run.choices);
+            let made = lent::schedule(&run.table, &mut left, &run.choices);
             assert_eq!(made, (count, Ok(())));
         },
         || {
             right.copy_from_slice(&start);
             let made = fast::schedule(&run.table, &mut right, &fast_choices);
-            assert_eq!(made, (count, Ok(())));
+            assert_eq!(made, (count as u64, Ok(())));
         },
     );
     assert_eq!(left, right);

@@ -131,11 +131,12 @@ const UNANSWERED: &str = "law: refused values write nothing";
 const ONLY_READ: &str = "law: what is only read stays";
 const AROUND: &str = "law: memory around what is lent stays";
 const WRAPPED: &str = "law: the wrapper answers and writes the same";
+const OWNED: &str = "law: the wrapper's own pool answers and writes the same";
 
-const LAWS: [&str; 20] = [
+const LAWS: [&str; 21] = [
     UNUSED, PLACED, AT_BLOCK, AT_SPAWN, AT_MAIN, FUNCTION, FRESH, NO_START, STEPS, PROMOTES,
     NO_CHOICE, ALL_MADE, NONE_MADE, STOPPED, BEHIND, NO_VALUES, UNANSWERED, ONLY_READ, AROUND,
-    WRAPPED,
+    WRAPPED, OWNED,
 ];
 
 /// What must occur: every law, and every answer of every call.
@@ -288,5 +289,10 @@ impl Laws {
     /// Whether the wrapper answers what the macros read, and writes the same.
     pub fn wrapped(&mut self, number: u64, holds: bool) {
         self.assert(WRAPPED, number, holds);
+    }
+
+    /// Whether the wrapper's call on a pool of its own does.
+    pub fn owned(&mut self, number: u64, holds: bool) {
+        self.assert(OWNED, number, holds);
     }
 }

@@ -1,9 +1,10 @@
 //! The library as a machine. Every call is made by the exported function, on
-//! copies of the memory and with the laws asserted, and then by the wrapper.
+//! copies of the memory and with the laws asserted, and then by the wrapper: on
+//! the memory lent, and where that is as long as a pool on a pool of its own.
 
 use crate::laws::{answer_in, stops, Call, Laws, CHECK, READ, WHICH};
 use crate::lent::Lent;
-use mezdaulk::{raw, Choice, Refusal as Wrapped};
+use mezdaulk::{lent, raw, Choice, Place, Pool, Refusal as Wrapped};
 use oracle::gen::schedules::Choice as Pair;
 use oracle::machine::Machine;
 use oracle::tally::Tally;
@@ -22,7 +23,7 @@ pub struct Library {
 const BYTE: u8 = 0xA5;
 const WORD: i32 = 0x5A5A_5A5A;
 const COUNT: u64 = 0x5A5A_5A5A_5A5A_5A5A;
-const STEP: Choice = Choice { kind: 0, thread: 0 };
+const STEP: Choice = Choice::step(0);
 
 // In every call of an exported function below, the pointers are valid for the
 // lengths beside them, and what is lent for writing overlaps nothing.
@@ -48,6 +49,25 @@ impl Library {
         let same_answer = wrapped.map_err(refusal) == answer;
         self.laws().wrapped(number, same_answer && same_words);
         answer
+    }
+
+    /// The wrapper's call on a pool of its own, where there are words for one:
+    /// it must answer the same, leave the same words, and give the same beside
+    /// the answer.
+    fn owned(
+        &self,
+        number: u64,
+        words: &[i32],
+        left: &[i32],
+        call: impl FnOnce(&mut Pool) -> (Result<u32, Wrapped>, bool),
+    ) {
+        if let Ok(mut pool) = Pool::from_words(words) {
+            let (wrapped, same_beside) = call(&mut pool);
+            let same_answer = wrapped.map_err(refusal) == answer_in(number);
+            let same_words = pool.words().as_slice() == left;
+            self.laws()
+                .owned(number, same_answer && same_words && same_beside);
+        }
     }
 
     /// A call on a table alone.
@@ -77,7 +97,10 @@ impl Library {
             .choose(table, pool, choice, number, words.left());
         let around = bytes.guarded() && words.guarded();
         self.laws().memory(number, bytes.left() == table, around);
-        let wrapped = mezdaulk::choose(table, pool, kind, thread).map(u32::from);
+        self.owned(number, pool, words.left(), |own| {
+            (own.choose(table, choice).map(rule_number), true)
+        });
+        let wrapped = lent::choose(table, pool, choice).map(rule_number);
         _ = self.answer(number, wrapped, pool == words.left());
         number
     }
@@ -85,13 +108,28 @@ impl Library {
 
 /// The wrapper's refusal as the second implementation writes it.
 fn refusal(wrapped: Wrapped) -> Refusal {
-    match wrapped {
-        Wrapped::Plain(number) => Refusal::plain(number),
-        Wrapped::Byte(at) => Refusal::byte(at),
-        Wrapped::Fault(number, function, block) => {
+    let number = wrapped.number();
+    match wrapped.place() {
+        None => Refusal::plain(number),
+        Some(Place::Byte(at)) => Refusal::byte(at),
+        Some(Place::Block { function, block }) => {
             Refusal::fault(number, function.into(), block.into())
         }
+        Some(Place::Function(function)) => Refusal::fault(number, function.into(), 255),
     }
+}
+
+/// The wrapper's values as the numbers that the exported functions give.
+fn rule_number(rule: mezdaulk::Rule) -> u32 {
+    rule.number().into()
+}
+
+fn thread_number(thread: Option<u32>) -> u32 {
+    thread.unwrap_or(8)
+}
+
+fn count_number(count: Option<usize>) -> u32 {
+    count.map_or(255, |count| count as u32)
 }
 
 /// A choice, whose kind and thread are within 32 bits.
@@ -119,7 +157,10 @@ impl Machine for Library {
         self.laws().start(table, pool, number, words.left());
         let around = bytes.guarded() && words.guarded();
         self.laws().memory(number, bytes.left() == table, around);
-        let wrapped = mezdaulk::start(table, pool).map(|()| 0);
+        self.owned(number, pool, words.left(), |own| {
+            (own.restart(table).map(|()| 0), true)
+        });
+        let wrapped = lent::start(table, pool).map(|()| 0);
         let same_words = pool == words.left();
         self.answer(number, wrapped, same_words).map(|_| ())
     }
@@ -143,7 +184,10 @@ impl Machine for Library {
         let only_read = bytes.left() == table && words.left() == pool;
         let around = bytes.guarded() && words.guarded();
         self.laws().memory(number, only_read, around);
-        let wrapped = mezdaulk::which(table, pool).map(|thread| thread.map_or(8, |t| t as u32));
+        self.owned(number, pool, pool, |own| {
+            (own.which(table).map(thread_number), true)
+        });
+        let wrapped = lent::which(table, pool).map(thread_number);
         let answer = self.answer(number, wrapped, true);
         answer.map(|thread| (thread != 8).then_some(thread as usize))
     }
@@ -162,8 +206,13 @@ impl Machine for Library {
         let only_read = bytes.left() == table && words.left() == pool;
         let around = bytes.guarded() && words.guarded() && values.guarded();
         self.laws().memory(number, only_read, around);
-        let wrapped = mezdaulk::values_into(table, pool, room)
-            .map(|count| count.map_or(255, |count| count as u32));
+        self.owned(number, pool, pool, |own| {
+            let given = own.values(table);
+            let same = !matches!(given, Ok(Some(given)) if !values.left().starts_with(&given));
+            let count = given.map(|given| count_number(given.map(|given| given.len())));
+            (count, same)
+        });
+        let wrapped = lent::values(table, pool, room).map(count_number);
         let answer = self.answer(number, wrapped, room == values.left());
         answer.map(|count| (count != 255).then_some(count as usize))
     }
@@ -191,8 +240,12 @@ impl Machine for Library {
         let only_read = bytes.left() == table && list.left() == choices;
         let around = bytes.guarded() && words.guarded() && list.guarded() && count.guarded();
         self.laws().memory(number, only_read, around);
-        let (wrapped_made, wrapped) = mezdaulk::schedule(table, pool, &choices);
-        let same_words = pool == words.left() && wrapped_made == *made;
+        self.owned(number, pool, words.left(), |own| {
+            let (own_made, answer) = own.schedule(table, &choices);
+            (answer.map(|()| 0), own_made as u64 == *made)
+        });
+        let (wrapped_made, wrapped) = lent::schedule(table, pool, &choices);
+        let same_words = pool == words.left() && wrapped_made as u64 == *made;
         self.answer(number, wrapped.map(|()| 0), same_words)
             .map(|_| ())
     }

@@ -1,0 +1,153 @@
+#!/usr/bin/env python3
+"""Checks table B of document 01 and runs it, through the shared object: the spork's call is promoted and joined, and main returns 7.
+
+example.py [LIBRARY]; without it MEZDAULK_LIBRARY is taken, or target/make/libmezdaulk.so of this repository, which make builds. Each
+answer is printed and held to what it must be; the status is 1 if one is another.
+"""
+import ctypes
+import os
+import pathlib
+import sys
+
+# The header's names.
+POOL_WORDS = 1673
+STEP, PROMOTE = 0, 1
+NO_THREAD = 8
+OPEN = 255
+REFUSED_FORM, REFUSED_WORDS, REFUSED_ENDED, REFUSED_WAITS = 3, 12, 16, 17
+RULE_SPORK, RULE_PROMOTE = 7, 10
+
+
+def GIVEN(answer):
+    return answer >> 32 & 1
+
+
+def VALUE(answer):
+    return answer & 0xFFFFFFFF
+
+
+def NUMBER(answer):
+    return answer & 0xFF
+
+
+def PLACE(answer):
+    return answer >> 8 & 0xFFFFFF
+
+
+class Choice(ctypes.Structure):
+    """A choice of a schedule: a kind and a thread, counted from 0."""
+
+    _fields_ = [("kind", ctypes.c_uint32), ("thread", ctypes.c_uint32)]
+
+
+Values = ctypes.c_int32 * 4
+TABLE = [ctypes.POINTER(ctypes.c_uint8), ctypes.c_size_t]
+POOL = [ctypes.POINTER(ctypes.c_int32), ctypes.c_size_t]
+CHOICES = [ctypes.POINTER(Choice), ctypes.c_size_t]
+
+# The calls, with the types of their parameters; each answers a uint64_t.
+CALLS = {
+    "mezdaulk_read": TABLE,
+    "mezdaulk_check": TABLE,
+    "mezdaulk_start": TABLE + POOL,
+    "mezdaulk_choose": TABLE + POOL + [ctypes.c_uint32, ctypes.c_uint32],
+    "mezdaulk_which": TABLE + POOL,
+    "mezdaulk_values": TABLE + POOL + [ctypes.POINTER(ctypes.c_int32)],
+    "mezdaulk_schedule": TABLE + POOL + CHOICES + [ctypes.POINTER(ctypes.c_uint64)],
+}
+
+TABLE_B = bytes.fromhex(
+    "00000048 01 02 00010401 01 00"
+    "00 0000 00 00 04 01 00"
+    "00 0000 01 00 00 05 02 03"
+    "00 0000 00 01 00 00 00 00000001 03 01 00"
+    "01 00 0000 00 00 03 01 00"
+    "00 01 01 00"
+    "00 0000 00 01 00 00 00 00000007 03 01 00"
+)
+
+
+def library(path):
+    """The shared object, with its calls declared."""
+    lib = ctypes.CDLL(path)
+    for name, parameters in CALLS.items():
+        call = getattr(lib, name)
+        call.argtypes = parameters
+        call.restype = ctypes.c_uint64
+    return lib
+
+
+def lent(table):
+    """A table's bytes as two arguments."""
+    return (ctypes.c_uint8 * len(table)).from_buffer_copy(table), len(table)
+
+
+class Held:
+    """Answers held to what they must be."""
+
+    wrong = 0
+
+    def hold(self, what, found, due):
+        if found != due:
+            print(f"  {what} is {found} and must be {due}")
+            self.wrong += 1
+
+    def given(self, call, answer, value):
+        print(f"{call}: given {VALUE(answer)}")
+        self.hold("given", GIVEN(answer), 1)
+        self.hold("the value", VALUE(answer), value)
+
+    def refused(self, call, answer, number):
+        print(f"{call}: refused {NUMBER(answer)}")
+        self.hold("given", GIVEN(answer), 0)
+        self.hold("the number", NUMBER(answer), number)
+
+
+def judge(lib, held):
+    """The table is read and checked; a damaged one is refused with its place."""
+    damaged = bytearray(TABLE_B)
+    damaged[5] = 0
+    answer = lib.mezdaulk_read(*lent(damaged))
+    held.refused("read with no function", answer, REFUSED_FORM)
+    held.hold("the place", PLACE(answer), 5)
+    held.given("read", lib.mezdaulk_read(*lent(TABLE_B)), 0)
+    held.given("check", lib.mezdaulk_check(*lent(TABLE_B)), 0)
+
+
+def run(lib, held):
+    """A pool is started and run to its result."""
+    table = lent(TABLE_B)
+    pool = (ctypes.c_int32 * POOL_WORDS)(), POOL_WORDS
+    values = Values(-1, -1, -1, -1)
+    held.refused("start with no words", lib.mezdaulk_start(*table, None, 0), REFUSED_WORDS)
+    held.given("start", lib.mezdaulk_start(*table, *pool), 0)
+    held.given("which", lib.mezdaulk_which(*table, *pool), 0)
+    held.given("values", lib.mezdaulk_values(*table, *pool, values), OPEN)
+    held.given("step 0", lib.mezdaulk_choose(*table, *pool, STEP, 0), RULE_SPORK)
+    held.given("promote 0", lib.mezdaulk_choose(*table, *pool, PROMOTE, 0), RULE_PROMOTE)
+    held.refused("step 0", lib.mezdaulk_choose(*table, *pool, STEP, 0), REFUSED_WAITS)
+    held.given("which", lib.mezdaulk_which(*table, *pool), 1)
+
+    choices = (Choice * 3)((STEP, 1), (STEP, 0), (STEP, 0))
+    made = ctypes.c_uint64(99)
+    answer = lib.mezdaulk_schedule(*table, *pool, choices, len(choices), ctypes.byref(made))
+    held.refused("step 1, step 0, step 0", answer, REFUSED_ENDED)
+    held.hold("the number made", made.value, 2)
+    held.given("which", lib.mezdaulk_which(*table, *pool), NO_THREAD)
+    held.given("values", lib.mezdaulk_values(*table, *pool, values), 1)
+    held.hold("the values", list(values), [7, -1, -1, -1])
+    print(f"result {values[0]}")
+
+
+def main():
+    built = pathlib.Path(__file__).resolve().parents[2] / "target/make/libmezdaulk.so"
+    path = sys.argv[1] if len(sys.argv) > 1 else os.environ.get("MEZDAULK_LIBRARY", str(built))
+    held = Held()
+    lib = library(path)
+    judge(lib, held)
+    run(lib, held)
+    return 1 if held.wrong else 0
+
+
+if __name__ == "__main__":
+    sys.exit(main())

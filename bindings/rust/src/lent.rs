@@ -1,0 +1,104 @@
+//! The calls on memory that the caller has: a table is any bytes and a pool any words, of any number. [`Pool`](crate::Pool) has
+//! the same calls on words of its own.
+
+use crate::raw::{self, Choice};
+use crate::refusal::answered;
+use crate::{Refusal, Rule};
+
+/// The value of `mezdaulk_which` where no thread can step, and of `mezdaulk_values` while main's values are open.
+const NO_THREAD: u32 = 8;
+const OPEN: u32 = 255;
+
+/// Does the table read? Refused: 1 to 3.
+///
+/// ```
+/// use mezdaulk::{read, Place, Reason};
+/// let refusal = read(&[0, 0, 0, 6, 1, 0]).unwrap_err();
+/// assert_eq!((refusal.reason(), refusal.place()), (Reason::Form, Some(Place::Byte(5))));
+/// ```
+pub fn read(table: &[u8]) -> Result<(), Refusal> {
+    // Safety: the slice is valid for its length, and the library reads nothing else.
+    answered(unsafe { raw::mezdaulk_read(table.as_ptr(), table.len()) }).map(|_| ())
+}
+
+/// Is the table well formed? Refused: the first of 1 to 11 in document 01's order.
+///
+/// ```
+/// use mezdaulk::{check, Reason};
+/// assert_eq!(check(&[]).unwrap_err().reason(), Reason::Size);
+/// ```
+pub fn check(table: &[u8]) -> Result<(), Refusal> {
+    // Safety: as in `read`.
+    answered(unsafe { raw::mezdaulk_check(table.as_ptr(), table.len()) }).map(|_| ())
+}
+
+/// Makes the words a fresh pool of the table. Refused: 1 to 3, 12.
+pub fn start(table: &[u8], pool: &mut [i32]) -> Result<(), Refusal> {
+    // Safety: both slices are valid for their lengths, and the pool is lent for writing alone.
+    answered(unsafe {
+        raw::mezdaulk_start(table.as_ptr(), table.len(), pool.as_mut_ptr(), pool.len())
+    })
+    .map(|_| ())
+}
+
+/// One choice. Refused: 1 to 3, 12 to 21.
+pub fn choose(table: &[u8], pool: &mut [i32], choice: Choice) -> Result<Rule, Refusal> {
+    // Safety: as in `start`.
+    answered(unsafe {
+        raw::mezdaulk_choose(
+            table.as_ptr(),
+            table.len(),
+            pool.as_mut_ptr(),
+            pool.len(),
+            choice.kind,
+            choice.thread,
+        )
+    })
+    .map(|rule| Rule::try_from(rule as u8).expect("the library makes one of rules 1 to 10"))
+}
+
+/// Choices up to the first refusal: how many were made, and that refusal, 1 to 3 or 12 to 21.
+pub fn schedule(
+    table: &[u8],
+    pool: &mut [i32],
+    choices: &[Choice],
+) -> (usize, Result<(), Refusal>) {
+    // The library writes the number either way; no list has so many.
+    let mut made = u64::MAX;
+    // Safety: as in `start`; the choices are valid for their number, and one count is lent for writing.
+    let answer = unsafe {
+        raw::mezdaulk_schedule(
+            table.as_ptr(),
+            table.len(),
+            pool.as_mut_ptr(),
+            pool.len(),
+            choices.as_ptr(),
+            choices.len(),
+            &mut made,
+        )
+    };
+    (made as usize, answered(answer).map(|_| ()))
+}
+
+/// A thread whose step makes a rule, or none exactly if there is none. Refused: 1 to 3, 12, 13.
+pub fn which(table: &[u8], pool: &[i32]) -> Result<Option<u32>, Refusal> {
+    // Safety: both slices are valid for their lengths, and nothing is written.
+    answered(unsafe { raw::mezdaulk_which(table.as_ptr(), table.len(), pool.as_ptr(), pool.len()) })
+        .map(|thread| (thread != NO_THREAD).then_some(thread))
+}
+
+/// How many values main has, 0 to 4, with that many of `room` written; or none while main has not returned. Refused: 1 to 3,
+/// 12, 13.
+pub fn values(table: &[u8], pool: &[i32], room: &mut [i32; 4]) -> Result<Option<usize>, Refusal> {
+    // Safety: as in `which`; four values are lent for writing.
+    answered(unsafe {
+        raw::mezdaulk_values(
+            table.as_ptr(),
+            table.len(),
+            pool.as_ptr(),
+            pool.len(),
+            room.as_mut_ptr(),
+        )
+    })
+    .map(|count| (count != OPEN).then_some(count as usize))
+}

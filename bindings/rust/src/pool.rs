@@ -1,0 +1,136 @@
+//! A pool that has its own words.
+
+use crate::lent;
+use crate::raw::Choice;
+use crate::{Reason, Refusal, Rule};
+use std::fmt;
+use std::ops::Deref;
+
+/// The words of a pool, 6,692 bytes without a heap.
+///
+/// A pool belongs to the table that started it, and each call takes that table again. The calls judge the words, so a pool from
+/// elsewhere is refused if it is none of the table ([`Reason::Pool`]); but the theorem on accepted tables speaks of a pool that
+/// was started from the table and that only these calls have written.
+#[derive(Clone, PartialEq, Eq)]
+pub struct Pool {
+    words: [i32; Pool::WORDS],
+}
+
+impl Pool {
+    /// How many words a pool has.
+    pub const WORDS: usize = 1673;
+
+    /// A fresh pool of a table that reads. Refused: 1 to 3.
+    pub fn start(table: &[u8]) -> Result<Pool, Refusal> {
+        let mut pool = Pool {
+            words: [0; Pool::WORDS],
+        };
+        pool.restart(table)?;
+        Ok(pool)
+    }
+
+    /// Makes the pool a fresh one, of this table or another. Refused: 1 to 3, and the pool is then as it was.
+    pub fn restart(&mut self, table: &[u8]) -> Result<(), Refusal> {
+        lent::start(table, &mut self.words)
+    }
+
+    /// A pool whose words were stored; they are judged by the calls, not here. Refused: 12.
+    ///
+    /// ```
+    /// use mezdaulk::{Pool, Reason};
+    /// assert_eq!(Pool::from_words(&[1, 1]).unwrap_err().reason(), Reason::Words);
+    /// ```
+    pub fn from_words(words: &[i32]) -> Result<Pool, Refusal> {
+        match words.try_into() {
+            Ok(words) => Ok(Pool { words }),
+            Err(_) => Err(Refusal::plain(Reason::Words)),
+        }
+    }
+
+    /// The words, to be stored.
+    pub fn words(&self) -> &[i32; Pool::WORDS] {
+        &self.words
+    }
+
+    /// One choice. Refused: 1 to 3, 13 to 21, and the pool is then as it was.
+    pub fn choose(&mut self, table: &[u8], choice: Choice) -> Result<Rule, Refusal> {
+        lent::choose(table, &mut self.words, choice)
+    }
+
+    /// A step of a thread: one of rules 1 to 9. Refused: 1 to 3, 13, 15 to 19.
+    pub fn step(&mut self, table: &[u8], thread: u32) -> Result<Rule, Refusal> {
+        self.choose(table, Choice::step(thread))
+    }
+
+    /// A promotion of a thread's oldest unpromoted call: rule 10. The child is put directly after its parent, and the threads
+    /// behind it move on by one. Refused: 1 to 3, 13, 15, 19 to 21.
+    pub fn promote(&mut self, table: &[u8], thread: u32) -> Result<Rule, Refusal> {
+        self.choose(table, Choice::promote(thread))
+    }
+
+    /// Choices up to the first refusal: how many were made, and that refusal, 1 to 3 or 13 to 21. What they did stays.
+    ///
+    /// ```
+    /// use mezdaulk::{Choice, Pool, Reason};
+    /// # let table = [
+    /// #     0, 0, 0, 30, 1, 1, 0, 1, 1, 0, 0, 0, 0, 0, 1, 0, 2, 0, 0, 0, 0, 2, 0, 0, 0, 0, 3, 3, 1, 0,
+    /// # ];
+    /// let mut pool = Pool::start(&table)?;
+    /// let (made, answer) = pool.schedule(&table, &[Choice::step(0), Choice::promote(0)]);
+    /// assert_eq!(made, 1);
+    /// assert_eq!(answer.unwrap_err().reason(), Reason::Promoted);
+    /// # Ok::<(), mezdaulk::Refusal>(())
+    /// ```
+    pub fn schedule(&mut self, table: &[u8], choices: &[Choice]) -> (usize, Result<(), Refusal>) {
+        lent::schedule(table, &mut self.words, choices)
+    }
+
+    /// A thread whose step makes a rule, or none exactly if there is none. Refused: 1 to 3, 13.
+    pub fn which(&self, table: &[u8]) -> Result<Option<u32>, Refusal> {
+        lent::which(table, &self.words)
+    }
+
+    /// Main's values, or none while main has not returned. Refused: 1 to 3, 13.
+    pub fn values(&self, table: &[u8]) -> Result<Option<Values>, Refusal> {
+        let mut room = [0; 4];
+        let count = lent::values(table, &self.words, &mut room)?;
+        Ok(count.map(|count| Values { room, count }))
+    }
+}
+
+/// The words, to be written: the calls judge what they hold.
+impl AsMut<[i32; Pool::WORDS]> for Pool {
+    fn as_mut(&mut self) -> &mut [i32; Pool::WORDS] {
+        &mut self.words
+    }
+}
+
+/// The number of threads, and not all words.
+impl fmt::Debug for Pool {
+    fn fmt(&self, f: &mut fmt::Formatter<'_>) -> fmt::Result {
+        f.debug_struct("Pool")
+            .field("threads", &self.words[0])
+            .finish_non_exhaustive()
+    }
+}
+
+/// Main's values, up to four: a slice of them.
+#[derive(Clone, Copy, PartialEq, Eq)]
+pub struct Values {
+    room: [i32; 4],
+    count: usize,
+}
+
+impl Deref for Values {
+    type Target = [i32];
+
+    fn deref(&self) -> &[i32] {
+        &self.room[..self.count]
+    }
+}
+
+impl fmt::Debug for Values {
+    fn fmt(&self, f: &mut fmt::Formatter<'_>) -> fmt::Result {
+        (**self).fmt(f)
+    }
+}

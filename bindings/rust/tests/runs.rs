@@ -1,0 +1,147 @@
+//! Runs of tables A and B of document 01, stored pools, and the numbers by name.
+
+use mezdaulk::{check, lent, read, Choice, Kind, Place, Pool, Reason, Refusal, Rule, Unknown};
+
+/// One statement, and the result 5.
+const A: [u8; 30] = [
+    0, 0, 0, 0x1E, 1, 1, 0, 1, 1, 0, 0, 0, 0, 0, 1, 0, 2, 0, 0, 0, 0, 2, 0, 0, 0, 0, 3, 3, 1, 0,
+];
+
+/// A spork: 1 if it is not promoted, 7 if it is.
+const B: [u8; 72] = [
+    0, 0, 0, 0x48, 1, 2, 0, 1, 4, 1, 1, 0, 0, 0, 0, 0, 0, 4, 1, 0, 0, 0, 0, 1, 0, 0, 5, 2, 3, 0, 0,
+    0, 0, 1, 0, 0, 0, 0, 0, 0, 1, 3, 1, 0, 1, 0, 0, 0, 0, 0, 3, 1, 0, 0, 1, 1, 0, 0, 0, 0, 0, 1, 0,
+    0, 0, 0, 0, 0, 7, 3, 1, 0,
+];
+
+fn reason<T: std::fmt::Debug>(answer: Result<T, Refusal>) -> Reason {
+    answer.expect_err("a refusal").reason()
+}
+
+#[test]
+fn a_run() {
+    assert_eq!(check(&A), Ok(()));
+    let mut pool = Pool::start(&A).unwrap();
+    assert_eq!(pool.which(&A), Ok(Some(0)));
+    assert_eq!(pool.values(&A), Ok(None));
+    assert_eq!(pool.step(&A, 0), Ok(Rule::Stmt));
+    assert_eq!(reason(pool.step(&A, 0)), Reason::Ended);
+    assert_eq!(*pool.values(&A).unwrap().unwrap(), [5]);
+    assert_eq!(pool.which(&A), Ok(None));
+}
+
+#[test]
+fn a_promotion_and_its_join() {
+    assert_eq!(check(&B), Ok(()));
+    let mut pool = Pool::start(&B).unwrap();
+    assert_eq!(pool.step(&B, 0), Ok(Rule::Spork));
+    assert_eq!(pool.promote(&B, 0), Ok(Rule::Promote));
+    assert_eq!(reason(pool.step(&B, 0)), Reason::Waits);
+    assert_eq!(pool.which(&B), Ok(Some(1)));
+    let (made, answer) = pool.schedule(&B, &[Choice::step(1), Choice::step(0), Choice::step(0)]);
+    assert_eq!((made, reason(answer)), (2, Reason::Ended));
+    assert_eq!(*pool.values(&B).unwrap().unwrap(), [7]);
+}
+
+#[test]
+fn choices_that_are_refused() {
+    let mut pool = Pool::start(&A).unwrap();
+    let fresh = pool.clone();
+    let no_kind = Choice { kind: 2, thread: 0 };
+    assert_eq!(reason(pool.choose(&A, no_kind)), Reason::Kind);
+    assert_eq!(reason(pool.step(&A, 1)), Reason::Thread);
+    assert_eq!(reason(pool.promote(&A, 0)), Reason::Promoted);
+    assert_eq!(pool, fresh);
+    assert_eq!(pool.schedule(&A, &[]), (0, Ok(())));
+}
+
+#[test]
+fn refusals_have_their_place_and_text() {
+    let mut bad = A;
+    bad[5] = 0;
+    let byte = read(&bad).unwrap_err();
+    assert_eq!(byte.place(), Some(Place::Byte(5)));
+    bad = A;
+    bad[12] = 1;
+    let entry = check(&bad).unwrap_err();
+    let block = Place::Block {
+        function: 0,
+        block: 0,
+    };
+    assert_eq!(
+        (entry.reason(), entry.place()),
+        (Reason::Entry, Some(block))
+    );
+    bad = A;
+    bad[6] = 1;
+    let main = check(&bad).unwrap_err();
+    assert_eq!((main.number(), main.place()), (4, Some(Place::Function(0))));
+    assert_eq!(check(&[]).unwrap_err().place(), None);
+    let texts: [&dyn std::error::Error; 3] = [&byte, &entry, &main];
+    assert_eq!(
+        texts.map(|text| text.to_string()),
+        [
+            "a byte of the table is out of range, missing or left over (refusal 3, byte 5)",
+            "an entry block has parameters, a nesting, or another scope than its function's parameters \
+             (refusal 5, function 0, block 0)",
+            "main has parameters (refusal 4, function 0)",
+        ]
+    );
+}
+
+#[test]
+fn stored_pools() {
+    let mut pool = Pool::start(&B).unwrap();
+    pool.step(&B, 0).unwrap();
+    let stored = pool.words().to_vec();
+    assert_eq!(Pool::from_words(&stored), Ok(pool.clone()));
+    assert_eq!(reason(Pool::from_words(&stored[1..])), Reason::Words);
+    assert_eq!(reason(pool.step(&A, 0)), Reason::Pool);
+    pool.as_mut()[0] = 0;
+    assert_eq!(reason(pool.which(&B)), Reason::Pool);
+    assert_eq!(pool.restart(&B), Ok(()));
+    assert_eq!(Ok(pool), Pool::start(&B));
+}
+
+#[test]
+fn as_many_values_as_main_returns() {
+    let two = [
+        0, 0, 0, 33, 1, 1, 0, 2, 1, 0, 0, 0, 0, 0, 2, 0, 0, 0, 0, 0, 0, 3, 1, 0, 0, 0, 0, 0, 4, 3,
+        2, 0, 1,
+    ];
+    let mut pool = Pool::start(&two).unwrap();
+    let (made, _) = pool.schedule(&two, &[Choice::step(0); 3]);
+    assert_eq!(made, 2);
+    assert_eq!(*pool.values(&two).unwrap().unwrap(), [3, 4]);
+    let none = [0, 0, 0, 17, 1, 1, 0, 0, 1, 0, 0, 0, 0, 0, 0, 3, 0];
+    pool.restart(&none).unwrap();
+    assert!(pool.values(&none).unwrap().unwrap().is_empty());
+}
+
+#[test]
+fn words_of_another_number() {
+    assert_eq!(reason(lent::start(&A, &mut [])), Reason::Words);
+    assert_eq!(
+        reason(lent::which(&A, &[0; Pool::WORDS + 1])),
+        Reason::Words
+    );
+    assert_eq!(reason(lent::values(&A, &[], &mut [0; 4])), Reason::Words);
+}
+
+#[test]
+fn numbers_by_name() {
+    let reasons: Vec<u8> = Reason::ALL.iter().map(|r| r.number()).collect();
+    assert_eq!(reasons, (1..=21).collect::<Vec<u8>>());
+    let rules: Vec<u8> = Rule::ALL.iter().map(|&rule| rule.into()).collect();
+    assert_eq!(rules, (1..=10).collect::<Vec<u8>>());
+    for &reason in Reason::ALL {
+        assert_eq!(Reason::try_from(reason.number()), Ok(reason));
+    }
+    for &rule in Rule::ALL {
+        assert_eq!(Rule::try_from(rule.number()), Ok(rule));
+    }
+    assert_eq!(Reason::try_from(22), Err(Unknown(22)));
+    assert_eq!(Rule::try_from(0), Err(Unknown(0)));
+    assert_eq!(Kind::try_from(1), Ok(Kind::Promote));
+    assert_eq!(Choice::new(Kind::Promote, 3), Choice { kind: 1, thread: 3 });
+}

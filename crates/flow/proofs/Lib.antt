@@ -1,0 +1,11 @@
+mod Field
+mod Fronts
+mod Pieces
+mod Taking
+mod Opening
+mod Putting
+mod Standing
+mod Bounds
+mod Feeding
+mod Ending
+mod Sessions

@@ -1,0 +1,4 @@
+pub mod Stages
+pub mod Pieces
+pub mod Stands
+pub mod Sessions

@@ -1,0 +1,157 @@
+/* What the header says of lent memory, tried on the archive. Pointers with a count of 0 are NULL, or point nowhere; and everything that
+ * is lent stands directly before or behind a page that can be neither read nor written, so that a touch outside of it ends the program.
+ * The last line is 'lent: N passed, M failed'. */
+#define _DEFAULT_SOURCE
+#include <stdio.h>
+#include <stdlib.h>
+#include <string.h>
+#include <sys/mman.h>
+#include <unistd.h>
+
+#include "mezdaulk.h"
+#include "table_b.h"
+
+#define REFUSED(number) ((uint64_t)(number))
+#define GIVEN(value) ((UINT64_C(1) << 32) + (value))
+
+static int passed, failed;
+
+static void hold(const char *what, uint64_t found, uint64_t due) {
+    if (found == due) {
+        passed++;
+    } else {
+        failed++;
+        printf("%s: %#llx, and %#llx is due\n", what, (unsigned long long)found, (unsigned long long)due);
+    }
+}
+
+/* Memory between two pages that cannot be touched. */
+struct fenced {
+    unsigned char *first;
+    size_t room;
+};
+
+enum side { BEHIND_A_FENCE, BEFORE_A_FENCE, SIDES };
+
+static struct fenced fenced(size_t bytes) {
+    const size_t page = (size_t)sysconf(_SC_PAGESIZE);
+    struct fenced fence;
+    unsigned char *all;
+    fence.room = (bytes + page - 1) / page * page;
+    all = mmap(NULL, fence.room + 2 * page, PROT_READ | PROT_WRITE, MAP_PRIVATE | MAP_ANONYMOUS, -1, 0);
+    if (all == MAP_FAILED || mprotect(all, page, PROT_NONE) || mprotect(all + page + fence.room, page, PROT_NONE)) {
+        perror("lent");
+        exit(2);
+    }
+    fence.first = all + page;
+    return fence;
+}
+
+/* The place of so many bytes, at one of the fences; they hold these bytes, where there are any. */
+static void *place(struct fenced fence, enum side side, const void *content, size_t bytes) {
+    unsigned char *at = side == BEFORE_A_FENCE ? fence.first + fence.room - bytes : fence.first;
+    if (content != NULL) {
+        memcpy(at, content, bytes);
+    }
+    return at;
+}
+
+/* A pointer with its count: something, or nothing at all. */
+static const uint8_t *table;
+static size_t bytes;
+static int32_t *pool;
+static size_t words;
+static const struct mezdaulk_choice *choices;
+static size_t count;
+
+/* What a call on the table, and on the table and the pool, answers where it is refused for them; or what is due otherwise. */
+static uint64_t of_table(uint64_t due) {
+    return bytes == 0 ? REFUSED(MEZDAULK_REFUSED_SIZE) : due;
+}
+
+static uint64_t of_pool(uint64_t due) {
+    return of_table(words == 0 ? REFUSED(MEZDAULK_REFUSED_WORDS) : due);
+}
+
+/* Every call, with what is lent now; a pool that is there is fresh, and so is it afterwards. */
+static void every_call(void) {
+    int32_t values[4] = {-1, -1, -1, -1};
+    uint64_t made = 99;
+    const int all = bytes != 0 && words != 0;
+    hold("read", mezdaulk_read(table, bytes), of_table(GIVEN(0)));
+    hold("check", mezdaulk_check(table, bytes), of_table(GIVEN(0)));
+    hold("start", mezdaulk_start(table, bytes, pool, words), of_pool(GIVEN(0)));
+    hold("which", mezdaulk_which(table, bytes, pool, words), of_pool(GIVEN(0)));
+    hold("values", mezdaulk_values(table, bytes, pool, words, values), of_pool(GIVEN(MEZDAULK_OPEN)));
+    hold("a value", (uint64_t)values[0], (uint64_t)-1);
+    hold("schedule", mezdaulk_schedule(table, bytes, pool, words, choices, count, &made), of_pool(GIVEN(0)));
+    hold("made", made, all ? count : 0);
+    hold("start again", mezdaulk_start(table, bytes, pool, words), of_pool(GIVEN(0)));
+    hold("choose", mezdaulk_choose(table, bytes, pool, words, MEZDAULK_STEP, 0), of_pool(GIVEN(MEZDAULK_RULE_SPORK)));
+}
+
+/* All combinations of something and nothing, where nothing is this address. */
+static void nothing_at(uintptr_t address) {
+    static int32_t some_pool[MEZDAULK_POOL_WORDS];
+    static const struct mezdaulk_choice some_choices[] = {{MEZDAULK_STEP, 0}, {MEZDAULK_PROMOTE, 0}};
+    int which;
+    for (which = 0; which < 8; which++) {
+        const int has_table = which & 1, has_pool = which & 2, has_choices = which & 4;
+        table = has_table ? table_b : (const uint8_t *)address;
+        bytes = has_table ? sizeof table_b : 0;
+        pool = has_pool ? some_pool : (int32_t *)address;
+        words = has_pool ? MEZDAULK_POOL_WORDS : 0;
+        choices = has_choices ? some_choices : (const struct mezdaulk_choice *)address;
+        count = has_choices ? 2 : 0;
+        every_call();
+    }
+}
+
+/* A run of B with all that is lent at fences: promoted and joined, with the result 7. */
+static void run_fenced(enum side side) {
+    static const struct mezdaulk_choice run[] = {
+        {MEZDAULK_STEP, 0}, {MEZDAULK_PROMOTE, 0}, {MEZDAULK_STEP, 1}, {MEZDAULK_STEP, 0}, {MEZDAULK_STEP, 0}};
+    const size_t pool_bytes = MEZDAULK_POOL_WORDS * sizeof(int32_t);
+    const uint8_t *t = place(fenced(sizeof table_b), side, table_b, sizeof table_b);
+    int32_t *p = place(fenced(pool_bytes), side, NULL, pool_bytes);
+    const struct mezdaulk_choice *c = place(fenced(sizeof run), side, run, sizeof run);
+    int32_t *v = place(fenced(4 * sizeof(int32_t)), side, NULL, 4 * sizeof(int32_t));
+    uint64_t *made = place(fenced(sizeof *made), side, NULL, sizeof *made);
+    hold("check", mezdaulk_check(t, sizeof table_b), GIVEN(0));
+    hold("start", mezdaulk_start(t, sizeof table_b, p, MEZDAULK_POOL_WORDS), GIVEN(0));
+    hold("which", mezdaulk_which(t, sizeof table_b, p, MEZDAULK_POOL_WORDS), GIVEN(0));
+    hold("schedule", mezdaulk_schedule(t, sizeof table_b, p, MEZDAULK_POOL_WORDS, c, 5, made), REFUSED(MEZDAULK_REFUSED_ENDED));
+    hold("made", *made, 4);
+    hold("values", mezdaulk_values(t, sizeof table_b, p, MEZDAULK_POOL_WORDS, v), GIVEN(1));
+    hold("result", (uint64_t)v[0], 7);
+    hold("choose", mezdaulk_choose(t, sizeof table_b, p, MEZDAULK_POOL_WORDS, MEZDAULK_STEP, 0), REFUSED(MEZDAULK_REFUSED_ENDED));
+    hold("one word less", mezdaulk_which(t, sizeof table_b, p, MEZDAULK_POOL_WORDS - 1), REFUSED(MEZDAULK_REFUSED_WORDS));
+}
+
+/* Every beginning of B, with its own length in the length field: a byte is missing, behind the fence. */
+static void beginnings(enum side side) {
+    const struct fenced fence = fenced(sizeof table_b);
+    uint8_t cut[sizeof table_b];
+    size_t length;
+    memcpy(cut, table_b, sizeof table_b);
+    for (length = 0; length < sizeof table_b; length++) {
+        const uint64_t due = length < 6 ? REFUSED(MEZDAULK_REFUSED_SIZE) : REFUSED(MEZDAULK_REFUSED_FORM) + 256 * length;
+        const uint8_t *t;
+        cut[3] = (uint8_t)length;
+        t = place(fence, side, cut, length);
+        hold("read of a beginning", mezdaulk_read(t, length), due);
+        hold("check of a beginning", mezdaulk_check(t, length), due);
+    }
+}
+
+int main(void) {
+    int side;
+    nothing_at(0);
+    nothing_at(1);
+    for (side = 0; side < SIDES; side++) {
+        run_fenced((enum side)side);
+        beginnings((enum side)side);
+    }
+    printf("lent: %d passed, %d failed\n", passed, failed);
+    return failed != 0;
+}

@@ -1,0 +1,126 @@
+/* How many bytes of stack each call takes: the call runs on a thread whose stack was filled with one byte, and afterwards the lowest
+ * byte that has changed is looked for. Every call is made at each state of a run of table B, and the most that it took is printed.
+ * MOST is what docs/USING.md says; a call that takes more fails, and so does one that seems to take nothing. */
+#define _POSIX_C_SOURCE 200809L
+#include <pthread.h>
+#include <stdio.h>
+#include <stdlib.h>
+#include <string.h>
+
+#include "mezdaulk.h"
+#include "table_b.h"
+
+#define MOST 12288
+#define STACK (256 * 1024)
+#define PAINT 0xA5
+
+static int32_t pool[MEZDAULK_POOL_WORDS];
+static const struct mezdaulk_choice run[] = {{MEZDAULK_STEP, 0}, {MEZDAULK_PROMOTE, 0}, {MEZDAULK_STEP, 0},
+                                             {MEZDAULK_STEP, 1}, {MEZDAULK_STEP, 0},    {MEZDAULK_STEP, 0}};
+enum { RUN = sizeof run / sizeof run[0] };
+
+/* How much of the run is made. */
+static size_t at;
+
+static uint64_t call_read(void) {
+    return mezdaulk_read(table_b, sizeof table_b - (at & 1));
+}
+
+static uint64_t call_check(void) {
+    return mezdaulk_check(table_b, sizeof table_b - (at & 1));
+}
+
+static uint64_t call_start(void) {
+    return mezdaulk_start(table_b, sizeof table_b, pool, MEZDAULK_POOL_WORDS);
+}
+
+static uint64_t call_choose(void) {
+    return mezdaulk_choose(table_b, sizeof table_b, pool, MEZDAULK_POOL_WORDS, run[at].kind, run[at].thread);
+}
+
+static uint64_t call_which(void) {
+    return mezdaulk_which(table_b, sizeof table_b, pool, MEZDAULK_POOL_WORDS);
+}
+
+static uint64_t call_values(void) {
+    int32_t values[4];
+    return mezdaulk_values(table_b, sizeof table_b, pool, MEZDAULK_POOL_WORDS, values);
+}
+
+static uint64_t call_schedule(void) {
+    uint64_t made;
+    return mezdaulk_schedule(table_b, sizeof table_b, pool, MEZDAULK_POOL_WORDS, run + at, RUN - at, &made);
+}
+
+struct job {
+    const char *name;
+    uint64_t (*call)(void);
+    const unsigned char *stack;
+    size_t taken;
+};
+
+/* Runs the call, and looks how far below this frame the stack was written. */
+static void *measure(void *given) {
+    struct job *job = given;
+    const unsigned char *here = __builtin_frame_address(0);
+    const unsigned char *low = job->stack;
+    volatile uint64_t answer = job->call();
+    (void)answer;
+    while (*low == PAINT) {
+        low++;
+    }
+    job->taken = (size_t)(here - low);
+    return NULL;
+}
+
+static void must(int failed, const char *what) {
+    if (failed) {
+        fprintf(stderr, "stack: %s failed\n", what);
+        exit(2);
+    }
+}
+
+/* The call on a fresh stack, with the pool as the run has left it. */
+static size_t taken(struct job *job) {
+    static _Alignas(4096) unsigned char stack[STACK];
+    pthread_attr_t attributes;
+    pthread_t thread;
+    size_t k;
+    memset(stack, PAINT, STACK);
+    job->stack = stack;
+    mezdaulk_start(table_b, sizeof table_b, pool, MEZDAULK_POOL_WORDS);
+    for (k = 0; k < at; k++) {
+        mezdaulk_choose(table_b, sizeof table_b, pool, MEZDAULK_POOL_WORDS, run[k].kind, run[k].thread);
+    }
+    must(pthread_attr_init(&attributes), "pthread_attr_init");
+    must(pthread_attr_setstack(&attributes, stack, STACK), "pthread_attr_setstack");
+    must(pthread_create(&thread, &attributes, measure, job), "pthread_create");
+    must(pthread_join(thread, NULL), "pthread_join");
+    pthread_attr_destroy(&attributes);
+    return job->taken;
+}
+
+int main(void) {
+    struct job jobs[] = {
+        {"read", call_read, NULL, 0},     {"check", call_check, NULL, 0},   {"start", call_start, NULL, 0},
+        {"choose", call_choose, NULL, 0}, {"which", call_which, NULL, 0},   {"values", call_values, NULL, 0},
+        {"schedule", call_schedule, NULL, 0},
+    };
+    int passed = 0, failed = 0;
+    size_t k;
+    for (k = 0; k < sizeof jobs / sizeof jobs[0]; k++) {
+        size_t most = 0;
+        for (at = 0; at < RUN; at++) {
+            size_t here = taken(&jobs[k]);
+            most = here > most ? here : most;
+        }
+        printf("mezdaulk_%s: %zu bytes of stack\n", jobs[k].name, most);
+        if (0 < most && most <= MOST) {
+            passed++;
+        } else {
+            failed++;
+        }
+    }
+    printf("stack: %d passed, %d failed\n", passed, failed);
+    return failed != 0;
+}
