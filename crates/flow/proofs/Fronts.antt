@@ -6,6 +6,7 @@ use mathlib.Core.List.{List, [], _∷_, _++_}
 use native.Mathlib.Omega.{arith}
 use lib.Dec.{leb, eqb}
 use lib.ListN.{length, take, drop, length-take, length-append, take-append-drop}
+use lib.Seq.{take-append-seam, drop-append-seam}
 use Rattle.model.specs.Numbers as No
 use Rattle.model.specs.Answers.{Refusal, Answer, with}
 use Rattle.model.specs.Syntax.{Program}
@@ -101,14 +102,6 @@ unfinished s e = go (sized (take (lengthField s) s) (lengthField (take (lengthFi
         let h = lacking s e .short (omega arith) .1 in let m = f .enough in absurd (omega arith)
 
 -- one whose table has just become whole
-take-all : (t r : List ℕ) → take (length t) (t ++ r) ≡ t
-take-all [] r = refl
-take-all (x ∷ t) r = ap (λ l. x ∷ l) (take-all t r)
-
-drop-all : (t r : List ℕ) → drop (length t) (t ++ r) ≡ r
-drop-all [] r = refl
-drop-all (x ∷ t) r = drop-all t r
-
 pub record Opens (t r : List ℕ) : Type 0 where
   pub front : accepted (take (lengthField (t ++ r)) (t ++ r)) ≡ accepted t
   pub back : (P : Program) → accepted t ≡ Answer.given P → drop (lengthField (t ++ r)) (t ++ r) ≡ r
@@ -164,8 +157,8 @@ module _ (s : List ℕ) (b : ℕ) (r : List ℕ) (before : whole s ≡ false) (n
       go true m =
           let e : lengthField (t ++ r) ≡ length t = same ∙ exact m in
           record {
-            front = ap accepted (ap (λ n. take n (t ++ r)) e ∙ take-all t r);
-            back = λ P q. ap (λ n. drop n (t ++ r)) e ∙ drop-all t r;
+            front = ap accepted (ap (λ n. take n (t ++ r)) e ∙ take-append-seam t r);
+            back = λ P q. ap (λ n. drop n (t ++ r)) e ∙ drop-append-seam t r;
           }
       go false m =
           record {

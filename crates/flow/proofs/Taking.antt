@@ -3,10 +3,11 @@ use Prim.Native.Nat.{ℕ, zero, suc, _+_, _-_, _≤_, _<_}
 use native.Mathlib.Omega.{arith}
 use native.Mathlib.Numerals.{add-one}
 use mathlib.Core.Path.{_≡_, refl, sym, ap, _∙_}
-use mathlib.Core.Bool.{Bool, true, false, not, _&&_, _||_}
+use mathlib.Core.Bool.{Bool, true, false, not, _||_}
 use mathlib.Core.List.{List, [], _∷_, _++_}
 use lib.Dec.{leb}
 use lib.ListN.{length, take, drop, set, getD, length-take, take-append-drop}
+use lib.Seq.{take-all}
 use Rattle.model.specs.Read.{lengthField}
 use Rattle.model.proofs.Facts.{le-leb, lt-leb}
 use Rattle.code.specs.Bytes.{wordAt}
@@ -15,19 +16,12 @@ use Rattle.flow.specs.Stages.{whole, limited}
 use Rattle.flow.specs.Stands.{Looks}
 use Rattle.flow.proofs.Field.{same-field}
 
-and-false : (a b : Bool) → b ≡ false → (a && b) ≡ false
-and-false true b e = e
-and-false false b e = refl
-
 -- the front of a slice
 pub front-part : (s : List ℕ) (n : ℕ) → take (n - 0) s ≡ take n s
 front-part s n = let e : n - 0 ≡ n = omega arith in ap (λ (k : ℕ). take k s) e
 
 pub front-all : (s : List ℕ) (n : ℕ) → length s ≤ n → s ≡ take n s
-front-all [] zero h = refl
-front-all [] (suc n) h = refl
-front-all (x ∷ s) zero h = absurd (omega arith)
-front-all (x ∷ s) (suc n) h = ap (λ l. x ∷ l) (front-all s n (omega arith))
+front-all s n h = sym (take-all n s h)
 
 -- a byte is put behind the first n
 put-next : (s : List ℕ) (n b : ℕ) → n < length s → take (suc n) (set s n b) ≡ take n s ++ b ∷ []
@@ -66,7 +60,7 @@ module _ (table : List ℕ) (n : ℕ) where
 
     pub large : 16384 < w → Looks table n true
     unfolding limited
-    large h l = sym (by-limits false (and-false (leb 6 w) (leb w 16384) (lt-leb w 16384 h)) l)
+    large h l = sym (by-limits false (rw (le-leb 6 w (omega arith), lt-leb w 16384 h) refl) l)
 
     pub between : 6 ≤ w → w ≤ 16384 → Looks table n (leb w n)
     unfolding limited

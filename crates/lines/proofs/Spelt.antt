@@ -1,13 +1,12 @@
 -- The text of values, one after another.
-use Prim.Native.Nat.{ℕ, zero, suc, _+_, _≤_, _<_}
-use native.Mathlib.Omega.{arith}
+use Prim.Native.Nat.{ℕ, _+_, _≤_, _<_}
 use native.Mathlib.Numerals.{add-one}
-use mathlib.Core.Path.{_≡_, refl, sym, ap, _∙_}
+use mathlib.Core.Path.{_≡_, sym, ap, _∙_}
 use mathlib.Core.List.{List, [], _∷_, _++_, map, append-nil, append-assoc}
 use mathlib.Core.Bool.{true, false}
 use lib.IntN.{ℤ, pos}
 use lib.ListN.{length, take, getD}
-use lib.Seq.{take-suc}
+use lib.Seq.{take-suc, take-all}
 use Rattle.model.specs.Lists.{concat}
 use Rattle.model.specs.Text.{ascii, newline, signedPart}
 use Rattle.model.specs.Output.{valuesOrOpen, resultLine}
@@ -33,18 +32,9 @@ turned v̄ i p h q =
     (sym (spelt-more (take i v̄) (getD v̄ i (pos 0))) ∙ ap spelt (sym (take-suc v̄ i (pos 0) h)
     ∙ ap (λ (n : ℕ). take n v̄) (sym (add-one i))))
 
-take-more : (v̄ : List ℤ) (i n : ℕ) → length v̄ ≤ i → length v̄ ≤ n → take i v̄ ≡ take n v̄
-take-more [] zero zero a b = refl
-take-more [] zero (suc n) a b = refl
-take-more [] (suc i) zero a b = refl
-take-more [] (suc i) (suc n) a b = refl
-take-more (x ∷ v̄) zero n a b = absurd (omega arith)
-take-more (x ∷ v̄) (suc i) zero a b = absurd (omega arith)
-take-more (x ∷ v̄) (suc i) (suc n) a b = ap (λ l. x ∷ l) (take-more v̄ i n (omega arith) (omega arith))
-
 pub all-turned : {d : List ℕ} {at : ℕ} (v̄ : List ℤ) (i n : ℕ) {r : ℕ} {d′ : List ℕ} → Puts d at (spelt (take i v̄)) r d′
     → length v̄ ≤ i → length v̄ ≤ n → Puts d at (spelt (take n v̄)) r d′
-all-turned v̄ i n p a b = same p (ap spelt (take-more v̄ i n a b))
+all-turned v̄ i n p a b = same p (ap spelt (take-all i v̄ a ∙ sym (take-all n v̄ b)))
 
 pub counted : {d : List ℕ} {at : ℕ} (v̄ : List ℤ) (i n : ℕ) {r : ℕ} {d′ : List ℕ} → Puts d at (spelt (take i v̄)) r d′ → i ≡ n
     → Puts d at (spelt (take n v̄)) r d′
