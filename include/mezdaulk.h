@@ -38,7 +38,7 @@ extern "C" {
 /* The value of a given answer. */
 #define MEZDAULK_VALUE(answer) ((uint32_t)((uint64_t)(answer) & 0xFFFFFFFFu))
 
-/* The number of a refusal, 1 to 21; the place of a 3; the function and the block of 4 to 11. */
+/* The number of a refusal, 1 to 22; the place of a 3; the function and the block of 4 to 11. */
 #define MEZDAULK_NUMBER(answer) ((unsigned)((uint64_t)(answer) & 0xFFu))
 #define MEZDAULK_PLACE(answer) ((unsigned)(((uint64_t)(answer) >> 8) & 0xFFFFFFu))
 #define MEZDAULK_BLOCK(answer) ((unsigned)(((uint64_t)(answer) >> 8) & 0xFFu))
@@ -71,7 +71,7 @@ extern "C" {
 /* of the pool, */
 #define MEZDAULK_REFUSED_WORDS 12u    /* the pool has not 1,673 words */
 #define MEZDAULK_REFUSED_POOL 13u     /* the words are no pool of this table */
-/* and of a choice. */
+/* of a choice, */
 #define MEZDAULK_REFUSED_KIND 14u     /* the kind is neither 0 nor 1 */
 #define MEZDAULK_REFUSED_THREAD 15u   /* there is no such thread */
 #define MEZDAULK_REFUSED_ENDED 16u    /* the thread has ended */
@@ -80,6 +80,8 @@ extern "C" {
 #define MEZDAULK_REFUSED_STUCK 19u    /* the thread is stuck: no rule applies */
 #define MEZDAULK_REFUSED_PROMOTED 20u /* the thread has nothing to promote */
 #define MEZDAULK_REFUSED_THREADS 21u  /* there is something to promote, but eight threads are there already */
+/* and of the depth. */
+#define MEZDAULK_REFUSED_CYCLE 22u    /* some function reaches itself by calls */
 
 /* The rules that a choice makes: 1 to 9 by a step, 10 by a promotion. */
 #define MEZDAULK_RULE_STMT 1u     /* a statement */
@@ -105,6 +107,12 @@ uint64_t mezdaulk_read(const uint8_t *table, size_t bytes);
 /* Is the table well formed? Given: 0, and then no list of choices ever jams a pool started from it. Refused: 1 to 11, the
  * first fault in order. */
 uint64_t mezdaulk_check(const uint8_t *table, size_t bytes);
+
+/* How many frames can a chain of calls need? Given: the depth of a table that the check accepts, 1 to 16: the most over every
+ * function as the first and the calls of all blocks, reached or not; a spawn call adds nothing. Where it is at most 8, no thread of a
+ * pool started from the table ever has more frames than that, no choice gets 18, and main has returned or some thread can step.
+ * Refused: 1 to 11 as by the check; 22 where some function reaches itself by calls. */
+uint64_t mezdaulk_depth(const uint8_t *table, size_t bytes);
 
 /* Makes 1,673 words, whatever they hold, a fresh pool of a table that reads. Given: 0. Refused: 1 to 3, 12; the words are then
  * as they were. */

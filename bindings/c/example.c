@@ -60,6 +60,7 @@ int main(void) {
     hold("the place", MEZDAULK_PLACE(answer), 5);
     given("read", mezdaulk_read(table, bytes), 0);
     given("check", mezdaulk_check(table, bytes), 0);
+    given("depth", mezdaulk_depth(table, bytes), 1);
 
     refused("start with no words", mezdaulk_start(table, bytes, NULL, 0), MEZDAULK_REFUSED_WORDS);
     given("start", mezdaulk_start(table, bytes, pool, words), 0);

@@ -49,6 +49,7 @@ CHOICES = [ctypes.POINTER(Choice), ctypes.c_size_t]
 CALLS = {
     "mezdaulk_read": TABLE,
     "mezdaulk_check": TABLE,
+    "mezdaulk_depth": TABLE,
     "mezdaulk_start": TABLE + POOL,
     "mezdaulk_choose": TABLE + POOL + [ctypes.c_uint32, ctypes.c_uint32],
     "mezdaulk_which": TABLE + POOL,
@@ -104,7 +105,7 @@ class Held:
 
 
 def judge(lib, held):
-    """The table is read and checked; a damaged one is refused with its place."""
+    """The table is read, checked and asked for its depth; a damaged one is refused with its place."""
     damaged = bytearray(TABLE_B)
     damaged[5] = 0
     answer = lib.mezdaulk_read(*lent(damaged))
@@ -112,6 +113,7 @@ def judge(lib, held):
     held.hold("the place", PLACE(answer), 5)
     held.given("read", lib.mezdaulk_read(*lent(TABLE_B)), 0)
     held.given("check", lib.mezdaulk_check(*lent(TABLE_B)), 0)
+    held.given("depth", lib.mezdaulk_depth(*lent(TABLE_B)), 1)
 
 
 def run(lib, held):

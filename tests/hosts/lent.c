@@ -8,6 +8,7 @@
 #include <sys/mman.h>
 #include <unistd.h>
 
+#include "line.h"
 #include "mezdaulk.h"
 #include "table_b.h"
 
@@ -80,6 +81,7 @@ static void every_call(void) {
     const int all = bytes != 0 && words != 0;
     hold("read", mezdaulk_read(table, bytes), of_table(GIVEN(0)));
     hold("check", mezdaulk_check(table, bytes), of_table(GIVEN(0)));
+    hold("depth", mezdaulk_depth(table, bytes), of_table(GIVEN(1)));
     hold("start", mezdaulk_start(table, bytes, pool, words), of_pool(GIVEN(0)));
     hold("which", mezdaulk_which(table, bytes, pool, words), of_pool(GIVEN(0)));
     hold("values", mezdaulk_values(table, bytes, pool, words, values), of_pool(GIVEN(MEZDAULK_OPEN)));
@@ -118,6 +120,7 @@ static void run_fenced(enum side side) {
     int32_t *v = place(fenced(4 * sizeof(int32_t)), side, NULL, 4 * sizeof(int32_t));
     uint64_t *made = place(fenced(sizeof *made), side, NULL, sizeof *made);
     hold("check", mezdaulk_check(t, sizeof table_b), GIVEN(0));
+    hold("depth", mezdaulk_depth(t, sizeof table_b), GIVEN(1));
     hold("start", mezdaulk_start(t, sizeof table_b, p, MEZDAULK_POOL_WORDS), GIVEN(0));
     hold("which", mezdaulk_which(t, sizeof table_b, p, MEZDAULK_POOL_WORDS), GIVEN(0));
     hold("schedule", mezdaulk_schedule(t, sizeof table_b, p, MEZDAULK_POOL_WORDS, c, 5, made), REFUSED(MEZDAULK_REFUSED_ENDED));
@@ -141,6 +144,21 @@ static void beginnings(enum side side) {
         t = place(fence, side, cut, length);
         hold("read of a beginning", mezdaulk_read(t, length), due);
         hold("check of a beginning", mezdaulk_check(t, length), due);
+        hold("depth of a beginning", mezdaulk_depth(t, length), due);
+    }
+}
+
+/* The depth of every line of functions, open and closed, at a fence. */
+static void lines(enum side side) {
+    const struct fenced fence = fenced(LINE_ROOM);
+    uint8_t room[LINE_ROOM];
+    unsigned functions;
+    for (functions = 1; functions <= LINE_FUNCTIONS; functions++) {
+        const size_t open = line(room, functions, 0);
+        size_t closed;
+        hold("depth of a line", mezdaulk_depth(place(fence, side, room, open), open), GIVEN(functions));
+        closed = line(room, functions, 1);
+        hold("depth of a closed line", mezdaulk_depth(place(fence, side, room, closed), closed), REFUSED(MEZDAULK_REFUSED_CYCLE));
     }
 }
 
@@ -151,6 +169,7 @@ int main(void) {
     for (side = 0; side < SIDES; side++) {
         run_fenced((enum side)side);
         beginnings((enum side)side);
+        lines((enum side)side);
     }
     printf("lent: %d passed, %d failed\n", passed, failed);
     return failed != 0;

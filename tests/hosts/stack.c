@@ -1,12 +1,14 @@
 /* How many bytes of stack each call takes: the call runs on a thread whose stack was filled with one byte, and afterwards the lowest
- * byte that has changed is looked for. Every call is made at each state of a run of table B, and the most that it took is printed.
- * MOST is what docs/USING.md says; a call that takes more fails, and so does one that seems to take nothing. */
+ * byte that has changed is looked for. Every call is made at each state of a run of table B, the depth on lines of sixteen functions,
+ * open and closed, and the most that it took is printed. MOST is what docs/USING.md says; a call that takes more fails, and so does one
+ * that seems to take nothing. */
 #define _POSIX_C_SOURCE 200809L
 #include <pthread.h>
 #include <stdio.h>
 #include <stdlib.h>
 #include <string.h>
 
+#include "line.h"
 #include "mezdaulk.h"
 #include "table_b.h"
 
@@ -28,6 +30,12 @@ static uint64_t call_read(void) {
 
 static uint64_t call_check(void) {
     return mezdaulk_check(table_b, sizeof table_b - (at & 1));
+}
+
+static uint64_t call_depth(void) {
+    static uint8_t table[LINE_ROOM];
+    const size_t bytes = line(table, LINE_FUNCTIONS, at & 1);
+    return mezdaulk_depth(table, bytes);
 }
 
 static uint64_t call_start(void) {
@@ -102,9 +110,9 @@ static size_t taken(struct job *job) {
 
 int main(void) {
     struct job jobs[] = {
-        {"read", call_read, NULL, 0},     {"check", call_check, NULL, 0},   {"start", call_start, NULL, 0},
-        {"choose", call_choose, NULL, 0}, {"which", call_which, NULL, 0},   {"values", call_values, NULL, 0},
-        {"schedule", call_schedule, NULL, 0},
+        {"read", call_read, NULL, 0},   {"check", call_check, NULL, 0},   {"depth", call_depth, NULL, 0},
+        {"start", call_start, NULL, 0}, {"choose", call_choose, NULL, 0}, {"which", call_which, NULL, 0},
+        {"values", call_values, NULL, 0}, {"schedule", call_schedule, NULL, 0},
     };
     int passed = 0, failed = 0;
     size_t k;

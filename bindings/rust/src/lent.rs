@@ -32,6 +32,29 @@ pub fn check(table: &[u8]) -> Result<(), Refusal> {
     answered(unsafe { raw::mezdaulk_check(table.as_ptr(), table.len()) }).map(|_| ())
 }
 
+/// How many frames a chain of calls can need, 1 to 16: the most over every function as the first and the calls of all blocks,
+/// reached or not. Where it is at most 8, no choice on a pool started from the table gets 18
+/// ([`Reason::Frames`](crate::Reason::Frames)). Refused: 1 to 11 as by [`check`]; 22 where some function reaches itself by calls.
+///
+/// ```
+/// use mezdaulk::{check, depth, Reason};
+///
+/// // Main calls function 1, and both return nothing.
+/// let mut table = [
+///     0, 0, 0, 37, 1, 2, 0, 0, 2, 0, 0, 0, 0, 0, 0, 2, 1, 0, 1, 0, 0, 0, 0, 0, 3, 0, 0, 0, 1, 0, 0, 0, 0, 0, 0, 3, 0,
+/// ];
+/// assert_eq!(depth(&table), Ok(2));
+///
+/// // Main calls itself.
+/// table[16] = 0;
+/// assert_eq!(check(&table), Ok(()));
+/// assert_eq!(depth(&table).unwrap_err().reason(), Reason::Cycle);
+/// ```
+pub fn depth(table: &[u8]) -> Result<u8, Refusal> {
+    // Safety: as in `read`.
+    answered(unsafe { raw::mezdaulk_depth(table.as_ptr(), table.len()) }).map(|frames| frames as u8)
+}
+
 /// Makes the words a fresh pool of the table. Refused: 1 to 3, 12.
 pub fn start(table: &[u8], pool: &mut [i32]) -> Result<(), Refusal> {
     // Safety: both slices are valid for their lengths, and the pool is lent for writing alone.

@@ -68,7 +68,7 @@ macro_rules! numbered {
 }
 
 numbered! {
-    /// Why a call was refused: document 01's numbers.
+    /// Why a call was refused: the numbers of documents 01 and 02.
     Reason {
         Size = 1, "the table has fewer than 6 or more than 16,384 bytes, or another length field";
         Version = 2, "the table's version is not 1";
@@ -91,6 +91,7 @@ numbered! {
         Stuck = 19, "the thread is stuck: no rule applies";
         Promoted = 20, "the thread has nothing to promote";
         Threads = 21, "there is something to promote, but eight threads are there already";
+        Cycle = 22, "some function reaches itself by calls";
     }
 }
 

@@ -43,6 +43,9 @@ extern "C" {
     /// Is the table well formed?
     pub fn mezdaulk_check(table: *const u8, bytes: usize) -> u64;
 
+    /// How many frames can a chain of calls need?
+    pub fn mezdaulk_depth(table: *const u8, bytes: usize) -> u64;
+
     /// Makes the words a fresh pool.
     pub fn mezdaulk_start(table: *const u8, bytes: usize, pool: *mut i32, words: usize) -> u64;
 

@@ -1,6 +1,8 @@
 //! Runs of tables A and B of document 01, stored pools, and the numbers by name.
 
-use mezdaulk::{check, lent, read, Choice, Kind, Place, Pool, Reason, Refusal, Rule, Unknown};
+use mezdaulk::{
+    check, depth, lent, read, Choice, Kind, Place, Pool, Reason, Refusal, Rule, Unknown,
+};
 
 /// One statement, and the result 5.
 const A: [u8; 30] = [
@@ -103,6 +105,52 @@ fn stored_pools() {
     assert_eq!(Ok(pool), Pool::start(&B));
 }
 
+/// A line: every function but the last calls the next, and all return nothing.
+fn line(functions: u8) -> Vec<u8> {
+    let mut table = vec![0, 0, 0, 0, 1, functions];
+    for f in 1..functions {
+        table.extend([0, 0, 2, 0, 0, 0, 0, 0, 0, 2, f, 0, 1]);
+        table.extend([0, 0, 0, 0, 0, 3, 0]);
+    }
+    table.extend([0, 0, 1, 0, 0, 0, 0, 0, 0, 3, 0]);
+    let length = table.len() as u32;
+    table[..4].copy_from_slice(&length.to_be_bytes());
+    table
+}
+
+#[test]
+fn depth_of_calls() {
+    assert_eq!((depth(&A), depth(&B)), (Ok(1), Ok(1)));
+    for functions in 1..=16 {
+        assert_eq!(depth(&line(functions)), Ok(functions));
+    }
+    // Of eight functions no call is refused; of nine the eighth is.
+    for (functions, calls, then) in [(8, 7, Ok(Rule::Return)), (9, 7, Err(Reason::Frames))] {
+        let table = line(functions);
+        let mut pool = Pool::start(&table).unwrap();
+        for _ in 0..calls {
+            assert_eq!(pool.step(&table, 0), Ok(Rule::Call));
+        }
+        assert_eq!(
+            pool.step(&table, 0).map_err(|refusal| refusal.reason()),
+            then
+        );
+    }
+    // Main that calls itself: 22, and the check's own refusals before it.
+    let mut table = line(2);
+    table[16] = 0;
+    assert_eq!(check(&table), Ok(()));
+    let cycle = depth(&table).unwrap_err();
+    assert_eq!((cycle.reason(), cycle.place()), (Reason::Cycle, None));
+    assert_eq!(
+        cycle.to_string(),
+        "some function reaches itself by calls (refusal 22)"
+    );
+    table[6] = 1;
+    assert_eq!(depth(&table).unwrap_err(), check(&table).unwrap_err());
+    assert_eq!(reason(depth(&[])), Reason::Size);
+}
+
 #[test]
 fn as_many_values_as_main_returns() {
     let two = [
@@ -131,7 +179,7 @@ fn words_of_another_number() {
 #[test]
 fn numbers_by_name() {
     let reasons: Vec<u8> = Reason::ALL.iter().map(|r| r.number()).collect();
-    assert_eq!(reasons, (1..=21).collect::<Vec<u8>>());
+    assert_eq!(reasons, (1..=22).collect::<Vec<u8>>());
     let rules: Vec<u8> = Rule::ALL.iter().map(|&rule| rule.into()).collect();
     assert_eq!(rules, (1..=10).collect::<Vec<u8>>());
     for &reason in Reason::ALL {
@@ -140,7 +188,7 @@ fn numbers_by_name() {
     for &rule in Rule::ALL {
         assert_eq!(Rule::try_from(rule.number()), Ok(rule));
     }
-    assert_eq!(Reason::try_from(22), Err(Unknown(22)));
+    assert_eq!(Reason::try_from(23), Err(Unknown(23)));
     assert_eq!(Rule::try_from(0), Err(Unknown(0)));
     assert_eq!(Kind::try_from(1), Ok(Kind::Promote));
     assert_eq!(Choice::new(Kind::Promote, 3), Choice { kind: 1, thread: 3 });

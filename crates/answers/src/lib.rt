@@ -53,6 +53,9 @@ impl No {
     pub const PROMOTED: u8 = 20;
 
     pub const THREADS: u8 = 21;
+
+    // the calls of an accepted table
+    pub const CYCLE: u8 = 22;
 }
 
 // The rules of figure 3.

@@ -11,28 +11,33 @@ use lib.IntN.{ℤ}
 use lib.ListN.{length, getD, getElem?, take, drop}
 use Rattle.model.specs.Numbers as No
 use Rattle.model.specs.Numbers.{Within, RuleOf}
-use Rattle.model.specs.Answers.{Refusal, Answer, outcome}
+use Rattle.model.specs.Answers.{Refusal, Answer, numberOf, outcome}
 use Rattle.model.specs.Syntax.{Function, Program}
 use Rattle.model.specs.Limits.{InFunction}
 use Rattle.model.specs.Pool.{wordsOf, started}
 use Rattle.model.specs.Calls as Calls
 use Rattle.model.specs.Calls.{Choice}
-use Rattle.model.proofs.Facts.{ne-eqb, each-at, at-below}
+use Rattle.model.proofs.Facts.{true-false, ne-eqb, each-at, at-below}
 use Rattle.model.proofs.Words.{started-words}
+use Rattle.model.proofs.Accepted.{check-wf}
 use Rattle.model.proofs.Guarantees.{read-limits}
 use Rattle.model.proofs.Kept.{OnSome}
 use Rattle.model.proofs.Numbers as Numbers
 use Rattle.model.proofs.Numbers.{Can, Any, read-can, check-can, start-can, choose-can, schedule-can, which-can, values-can}
 use Rattle.model.proofs.Numbers.{read-heading, start-begins, start-leaves, choose-leaves}
 use Rattle.answers.specs.Coded.{codeOf}
+use Rattle.chains.specs.Depth.{depth}
+use Rattle.chains.specs.Means.{Accepted}
+use Rattle.chains.proofs.Means.{depth-means}
 use Rattle.host.specs.Macros.{isGiven, value, number, block, function}
-use Rattle.host.specs.Exports.{done, ruled, stepperOf, counted, over, written}
-use Rattle.host.specs.Contracts.{Read, Check, Start, Choose, Schedule, Which, Values}
+use Rattle.host.specs.Exports.{done, asNumber, stepperOf, counted, over, written}
+use Rattle.host.specs.Contracts.{Read, Check, Depth, Start, Choose, Schedule, Which, Values}
 use Rattle.host.specs.Laws as Laws
 use Rattle.host.specs.Laws.{answerIn, threadIn, valuesIn, fresh, Placed, OfTable, OfProgram, OfPool, OfChoice, StopsAt}
-use Rattle.host.specs.Laws.{ReadTells, CheckTells, StartTells, ChooseTells, ScheduleTells, WhichTells, ValuesTells}
-use Rattle.host.proofs.Codes.{Fits, Gave, Refused, done-code, ruled-code, stepper-code, counted-code, thread, count}
+use Rattle.host.specs.Laws.{ReadTells, CheckTells, DepthTells, StartTells, ChooseTells, ScheduleTells, WhichTells, ValuesTells}
+use Rattle.host.proofs.Codes.{Fits, Gave, Refused, done-code, number-code, stepper-code, counted-code, thread, count}
 use Rattle.host.proofs.Codes.{valued, tells, gave, refused}
+use Rattle.host.proofs.Macros.{read-given, read-refused, done-read, stopped-read}
 
 -- what the model can refuse fits into a number, and what the macros then read
 table-fits : {s : List ℕ} (q : Refusal) → Numbers.OfTable s q → Fits q
@@ -173,6 +178,61 @@ check-law s r e =
       refused = λ g. let q = done-refused a Any R check-fits can g in rw (q .told) (check-told (q .has));
     })
 
+-- the depth of a table
+data OfDepth (s : List ℕ) : Refusal → Type 0 where
+  check : {q : Refusal} → Numbers.OfCheck s q → OfDepth s q
+  cycle : OfDepth s (Refusal.plain No.cycle)
+
+depth-fits : {s : List ℕ} (q : Refusal) → OfDepth s q → Fits q
+depth-fits _ (OfDepth.check h) = check-fits _ h
+depth-fits _ OfDepth.cycle = inr (lit≤ tt, lit≤ tt)
+
+module _ (s : List ℕ) where
+  depth-can : Can (Within 1 16) (OfDepth s) (depth s)
+  depth-can = go (Calls.check s) refl (check-can s)
+    where
+      on : {P : Program} → Accepted s P → ((d : ℕ) × (depth s ≡ Answer.given d)) ⊎ (depth s ≡ Answer.refused (Refusal.plain No.cycle)) →
+          Can (Within 1 16) (OfDepth s) (depth s)
+      on A (inl (d, e)) = rw e (A .within d (A .deep d e))
+      on A (inr e) = rw e OfDepth.cycle
+
+      go : (a : Answer (Unit {0})) → Calls.check s ≡ a → Can Any (Numbers.OfCheck s) a → Can (Within 1 16) (OfDepth s) (depth s)
+      go (Answer.given u) e h = let A = depth-means .accepted s (check-wf s e .0) e (check-wf s e .1) in on A (A .answered)
+      go (Answer.refused q) e h = rw (depth-means .refused s q e) (OfDepth.check h)
+
+few-room : (d : ℕ) → Within 1 16 d → d < 2 ^ 32
+few-room d h = omega arith
+
+valued-same : (a : Answer ℕ) → valued (λ x. x) a ≡ a
+valued-same (Answer.given x) = refl
+valued-same (Answer.refused q) = refl
+
+-- an answer that is given or gets 22, read in a number
+gets-cycle : {a : Answer ℕ} (r : ℕ) → answerIn r ≡ a → ((d : ℕ) × (a ≡ Answer.given d)) ⊎ (a ≡ Answer.refused (Refusal.plain No.cycle)) →
+    isGiven r ≡ false → number r ≡ No.cycle
+unfolding numberOf
+gets-cycle r t (inl (d, x)) e = true-false (isGiven r) (read-given r (t ∙ x) .0) e
+gets-cycle r t (inr x) e = read-refused r (t ∙ x) .1
+
+pub depth-law : (s : List ℕ) (r : ℕ) → Depth s r → DepthTells s r
+unfolding asNumber done
+depth-law s r m =
+    let a = depth s in
+    let can = depth-can s in
+    let told : answerIn (asNumber a) ≡ a = tells number-code (Within 1 16) (OfDepth s) few-room depth-fits a can ∙ valued-same a in
+    rw m
+    (record {
+      answers = told;
+      given = λ e. let v = gave number-code (Within 1 16) (OfDepth s) few-room depth-fits a can e in rw (v .told) (v .has);
+      unchecked = λ c k e.
+          let q = stopped-read c (Calls.check s) (check-law s c k .answers) e in
+          ap asNumber (depth-means .refused s _ q) ∙ sym (k ∙ ap done q);
+      refused = λ c k g e.
+          let h = done-read c (Calls.check s) (check-law s c k .answers) g in
+          let A = depth-means .accepted s (check-wf s h .0) h (check-wf s h .1) in
+          gets-cycle (asNumber a) told (A .answered) e;
+    })
+
 -- the words of the fresh pool
 started-fresh : wordsOf started ≡ fresh
 unfolding fresh
@@ -197,10 +257,6 @@ rule-room : (kind rule : ℕ) → RuleOf kind rule → rule < 2 ^ 32
 rule-room kind rule (inl h) = omega arith
 rule-room kind rule (inr h) = omega arith
 
-valued-same : (a : Answer ℕ) → valued (λ x. x) a ≡ a
-valued-same (Answer.given x) = refl
-valued-same (Answer.refused q) = refl
-
 pub choose-law : (s : List ℕ) (ws : List ℤ) (kind thread r : ℕ) (ws′ : List ℤ) → Choose s ws kind thread r ws′ →
     ChooseTells s ws kind thread r ws′
 choose-law s ws kind thread r ws′ g =
@@ -211,10 +267,10 @@ choose-law s ws kind thread r ws′ g =
     let words : ws′ ≡ Calls.choose s ws kind thread .after = g .words in
     rw (g .number)
     (record {
-      answers = tells ruled-code (RuleOf kind) R room choice-fits a can ∙ valued-same a;
-      given = λ e. let v = gave ruled-code (RuleOf kind) R room choice-fits a can e in rw (v .told) (v .has);
+      answers = tells number-code (RuleOf kind) R room choice-fits a can ∙ valued-same a;
+      given = λ e. let v = gave number-code (RuleOf kind) R room choice-fits a can e in rw (v .told) (v .has);
       refused = λ e.
-          let q = refused ruled-code (RuleOf kind) R room choice-fits a can e in
+          let q = refused number-code (RuleOf kind) R room choice-fits a can e in
           (rw (q .told) (choice-told (q .has)), words ∙ choose-leaves s ws kind thread (q .is));
     })
 
@@ -234,7 +290,7 @@ pool-below (inr h) = omega arith
 
 schedule-told : {s : List ℕ} {ws ws′ : List ℤ} {cs : List Choice} {made : ℕ} {q : Refusal} → Numbers.OfSchedule s ws cs q made ws′ →
     Stopped s ws cs (codeOf q) made ws′
-unfolding ruled
+unfolding asNumber
 schedule-told (Numbers.OfSchedule.lends h) =
     let p = lent-told h in
     record { choice = wider p; before = λ _. (refl, refl); stops = λ l. absurd (omega (arith, pool-below p)) }
@@ -242,7 +298,7 @@ schedule-told (Numbers.OfSchedule.chosen w c there e) =
     record {
       choice = inr (omega arith, omega arith);
       before = λ b. absurd (omega arith);
-      stops = λ _. record { choice = c; there = there; again = λ q w′ g. g .number ∙ ap ruled e };
+      stops = λ _. record { choice = c; there = there; again = λ q w′ g. g .number ∙ ap asNumber e };
     }
 
 stops-same : {s : List ℕ} {ws ws′ : List ℤ} {cs : List Choice} {r made made′ : ℕ} → made′ ≡ made → ws′ ≡ ws → StopsAt s ws cs r made →
@@ -383,6 +439,7 @@ laws =
     record {
       read = read-law;
       check = check-law;
+      depth = depth-law;
       start = start-law;
       choose = choose-law;
       schedule = schedule-law;

@@ -1,4 +1,6 @@
 pub mod Codes
+pub mod Counts
 pub mod Laws
 pub mod Macros
 pub mod Sessions
+pub mod Roomy

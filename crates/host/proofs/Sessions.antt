@@ -91,23 +91,23 @@ schedule-answered s cs ws l e h {q} a =
 
 -- words that calls leave after the start of an accepted table
 module _ (s : List ℕ) (ws : List ℤ) (h : Calls.check s ≡ Answer.given tt) (n : length ws ≡ poolWords) where
-  record Reached (w : List ℤ) : Type 0 where
-    calls : List Model.Call
-    is : now s ws calls ≡ w
+  pub record Reached (w : List ℤ) : Type 0 where
+    pub calls : List Model.Call
+    pub is : now s ws calls ≡ w
 
   module _ {w : List ℤ} (g : Reached w) where
-    reached-lent : (l : Lent) × (lent s w ≡ Answer.given l)
+    pub reached-lent : (l : Lent) × (lent s w ≡ Answer.given l)
     reached-lent = rw (← g .is) (always-pool s ws h n (g .calls))
 
     reached-stands : Model.Stands s w
     reached-stands = rw (← g .is) (demand3 s ws h n .safe (g .calls) .stands)
 
     reached-waiting : (i : ℕ) → Calls.choose s w 0 i .answer ≡ Answer.refused (Refusal.plain No.waits) →
-        Model.CanStep s w ⊎ Model.OutOfFrames s w
+        Model.Moves s w
     reached-waiting i e = go (rw (← g .is) at e)
       where
         go : Calls.choose s (now s ws (g .calls)) 0 i .answer ≡ Answer.refused (Refusal.plain No.waits) →
-            Model.CanStep s w ⊎ Model.OutOfFrames s w
+            Model.Moves s w
         go e = rw (← g .is) (waiting-moves s ws h n (g .calls) i e)
 
     reached-left : (c : Model.Call) → Reached (left s w c)
@@ -168,7 +168,7 @@ module _ (s : List ℕ) (w : List ℤ) (lends : (l : Lent) × (lent s w ≡ Answ
   values-answer = (mainValues (lends .0 .table) (lends .0 .pool), rw (lends .1))
 
   -- how the words stand
-  returned : Model.Returned s w → Returned s w
+  pub returned : Model.Returned s w → Returned s w
   returned d vs r vs′ m =
       let (g, v) = values-given vs r vs′ (d .given) m in
       let H = read-heading s (d .table) (d .reads) in
@@ -176,7 +176,7 @@ module _ (s : List ℕ) (w : List ℤ) (lends : (l : Lent) × (lent s w ≡ Answ
       let four : length (d .result) ≤ 4 = rw (d .given) at (values-can s w) in
       (g, v ∙ d .declared ∙ ap (λ (F : Function). F .signature .returns) same ∙ H .returns, rw v four)
 
-  can-step : Model.CanStep s w → CanStep s w
+  pub can-step : Model.CanStep s w → CanStep s w
   can-step c =
       record {
         thread = c .thread;
@@ -203,18 +203,18 @@ module _ (s : List ℕ) (w : List ℤ) (lends : (l : Lent) × (lent s w ≡ Answ
   stands (inr (inr o)) = inr (inr (out-of-frames o))
 
   -- what mezdaulk_which tells
-  nobody : Model.Stands s w → (r : ℕ) → Which s w r → value r ≡ noThread → Returned s w ⊎ OutOfFrames s w
+  pub none-steps : (r : ℕ) → Which s w r → value r ≡ noThread → ¬ Model.CanStep s w
   unfolding Calls.Which threadIn
+  none-steps r m e c =
+      let right : Calls.Which s w (Answer.given none) = rw (given-read r (which-given r m), e) at (which-law s w r m .answers) in
+      right .1 (c .thread) (c .rule, c .makes)
+
+  nobody : Model.Stands s w → (r : ℕ) → Which s w r → value r ≡ noThread → Returned s w ⊎ OutOfFrames s w
   nobody t r m e = go t
     where
-      none-steps : (i : ℕ) → ¬ Calls.Steps s w i
-      none-steps =
-          let right : Calls.Which s w (Answer.given none) = rw (given-read r (which-given r m), e) at (which-law s w r m .answers) in
-          right .1
-
       go : Model.Stands s w → Returned s w ⊎ OutOfFrames s w
       go (inl d) = inl (returned d)
-      go (inr (inl c)) = absurd (none-steps (c .thread) (c .rule, c .makes))
+      go (inr (inl c)) = absurd (none-steps r m e c)
       go (inr (inr o)) = inr (out-of-frames o)
 
   somebody : (r : ℕ) → Which s w r → value r ≢ noThread → (q : ℕ) (w′ : List ℤ) → Choose s w step (value r) q w′ →
@@ -234,23 +234,23 @@ module _ (s : List ℕ) (w : List ℤ) (lends : (l : Lent) × (lent s w ≡ Answ
       ordinary (inr (z, x)) = absurd (omega arith)
 
   -- a step that waits
-  waits : (thread r : ℕ) (w′ : List ℤ) → Choose s w step thread r w′ → isGiven r ≡ false → number r ≡ No.waits →
+  pub waits : (thread r : ℕ) (w′ : List ℤ) → Choose s w step thread r w′ → isGiven r ≡ false → number r ≡ No.waits →
       Calls.choose s w 0 thread .answer ≡ Answer.refused (Refusal.plain No.waits)
   waits thread r w′ m e i =
       sym (choose-law s w step thread r w′ m .answers) ∙ refused-read r e ∙
       ap Answer.refused (plain-in r No.waits i (inr (lit≤ tt, lit≤ tt)))
 
-  moves : Model.CanStep s w ⊎ Model.OutOfFrames s w → CanStep s w ⊎ OutOfFrames s w
+  moves : Model.Moves s w → CanStep s w ⊎ OutOfFrames s w
   moves (inl c) = inl (can-step c)
   moves (inr o) = inr (out-of-frames o)
 
 -- sessions of an accepted table
 module _ (s : List ℕ) (ws : List ℤ) (h : Calls.check s ≡ Answer.given tt) (n : length ws ≡ poolWords) where
-  abbrev At : List ℤ → Type 0
+  abbrev pub At : List ℤ → Type 0
   At w = Reached s ws h n w
 
   -- a call: what it answers, and what it leaves
-  call-safe : (w : List ℤ) (c : Call) (w′ : List ℤ) → At w → Made s w c w′ → Answered c × At w′
+  pub call-safe : (w : List ℤ) (c : Call) (w′ : List ℤ) → At w → Made s w c w′ → Answered c × At w′
   unfolding ofCall
   call-safe w (Call.choose kind thread r) w′ g m = (
     choose-unstuck s w (reached-lent s ws h n g) kind thread r w′ (reached-answered s ws h n g (Model.Call.choose kind thread) .0) m,
@@ -265,7 +265,7 @@ module _ (s : List ℕ) (ws : List ℤ) (h : Calls.check s ≡ Answer.given tt) 
       let lends = reached-lent s ws h n g in
       (values-given s w lends vs r vs′ (values-answer s w lends .1) (m .0) .0, rw (m .1) g)
 
-  session-safe : (cs : List Call) (w w′ : List ℤ) → At w → Session s w cs w′ → Each Answered cs × At w′
+  pub session-safe : (cs : List Call) (w w′ : List ℤ) → At w → Session s w cs w′ → Each Answered cs × At w′
   session-safe [] w w′ g m = (tt, rw m g)
   session-safe (c ∷ cs) w w′ g m =
       let (a, g₁) = call-safe w c (m .0) g (m .1) in
@@ -285,7 +285,7 @@ module _ (s : List ℕ) (ws : List ℤ) (h : Calls.check s ≡ Answer.given tt) 
         waiting = λ i r v m e k. moves s w′ lends (reached-waiting s ws h n g′ i (waits s w′ lends i r v m e k));
       }
 
-  begun : At (Calls.start s ws .after)
+  pub begun : At (Calls.start s ws .after)
   unfolding finally
   begun = record { calls = []; is = refl }
 

@@ -7,8 +7,9 @@ use lib.IntN.{ℤ}
 use Rattle.model.specs.Answers.{outcome}
 use Rattle.model.specs.Calls as Calls
 use Rattle.model.specs.Calls.{Choice}
+use Rattle.chains.specs.Depth.{depth}
 use Rattle.host.specs.Exports as Exports
-use Rattle.host.specs.Exports.{done, ruled, Gives, Finds, Tells}
+use Rattle.host.specs.Exports.{done, asNumber, Gives, Finds, Tells}
 
 abbrev pub Read : List ℕ → ℕ → Type 0
 Read s r = r ≡ done (outcome (Calls.read s))
@@ -16,12 +17,15 @@ Read s r = r ≡ done (outcome (Calls.read s))
 abbrev pub Check : List ℕ → ℕ → Type 0
 Check s r = r ≡ done (Calls.check s)
 
+abbrev pub Depth : List ℕ → ℕ → Type 0
+Depth s r = r ≡ asNumber (depth s)
+
 -- the pool's words before and afterwards
 abbrev pub Start : List ℕ → List ℤ → ℕ → List ℤ → Type 0
 Start s ws r ws′ = Gives done (Calls.start s ws) r ws′
 
 abbrev pub Choose : List ℕ → List ℤ → ℕ → ℕ → ℕ → List ℤ → Type 0
-Choose s ws kind thread r ws′ = Gives ruled (Calls.choose s ws kind thread) r ws′
+Choose s ws kind thread r ws′ = Gives asNumber (Calls.choose s ws kind thread) r ws′
 
 -- how many choices were made, too
 abbrev pub Schedule : List ℕ → List ℤ → List Choice → ℕ → ℕ → List ℤ → Type 0

@@ -16,10 +16,10 @@ unfoldable pub done : Answer (Unit {0}) → ℕ
 done (Answer.given u) = given 0
 done (Answer.refused r) = codeOf r
 
--- a choice's rule
-unfoldable pub ruled : Answer ℕ → ℕ
-ruled (Answer.given rule) = given rule
-ruled (Answer.refused r) = codeOf r
+-- an answer that gives a number: a choice's rule, the depth of a table
+unfoldable pub asNumber : Answer ℕ → ℕ
+asNumber (Answer.given n) = given n
+asNumber (Answer.refused r) = codeOf r
 
 -- the thread that can step, or that there is none
 unfoldable pub stepperOf : Answer (Option ℕ) → ℕ

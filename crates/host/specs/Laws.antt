@@ -15,8 +15,9 @@ use Rattle.model.specs.Answers.{Refusal, Answer, outcome}
 use Rattle.model.specs.Pool.{frameCountAt, threadCountAt, threadStart}
 use Rattle.model.specs.Calls as Calls
 use Rattle.model.specs.Calls.{Choice}
+use Rattle.chains.specs.Depth.{depth}
 use Rattle.host.specs.Macros.{isGiven, value, number, place, block, function, poolWords, noThread, stillOpen}
-use Rattle.host.specs.Contracts.{Read, Check, Start, Choose, Schedule, Which, Values}
+use Rattle.host.specs.Contracts.{Read, Check, Depth, Start, Choose, Schedule, Which, Values}
 
 -- what the macros read in a refused number: for 3 a place, for 4 to 11 a function and a block
 unfoldable pub refusalIn : ℕ → Refusal
@@ -76,6 +77,14 @@ pub record CheckTells (s : List ℕ) (r : ℕ) : Type 0 where
   pub given : isGiven r ≡ true → value r ≡ 0
   pub refused : isGiven r ≡ false → OfTable s r ⊎ OfProgram s r
 
+-- mezdaulk_depth: the value is the frames. A table that mezdaulk_check refuses gets the same number; an accepted one is given its
+-- depth or gets 22
+pub record DepthTells (s : List ℕ) (r : ℕ) : Type 0 where
+  pub answers : answerIn r ≡ depth s
+  pub given : isGiven r ≡ true → Within 1 16 (value r)
+  pub unchecked : (c : ℕ) → Check s c → isGiven c ≡ false → r ≡ c
+  pub refused : (c : ℕ) → Check s c → isGiven c ≡ true → isGiven r ≡ false → number r ≡ No.cycle
+
 -- a fresh pool: one thread, with one frame at main's entry. Every other word is 0
 unfoldable pub fresh : List ℤ
 fresh = set (set (replicate poolWords (pos 0)) threadCountAt (pos 1)) (threadStart 0 + frameCountAt) (pos 1)
@@ -126,6 +135,7 @@ pub record ValuesTells (s : List ℕ) (ws vs : List ℤ) (r : ℕ) (vs′ : List
 pub record Laws : Type 0 where
   pub read : (s : List ℕ) (r : ℕ) → Read s r → ReadTells s r
   pub check : (s : List ℕ) (r : ℕ) → Check s r → CheckTells s r
+  pub depth : (s : List ℕ) (r : ℕ) → Depth s r → DepthTells s r
   pub start : (s : List ℕ) (ws : List ℤ) (r : ℕ) (ws′ : List ℤ) → Start s ws r ws′ → StartTells s ws r ws′
   pub choose : (s : List ℕ) (ws : List ℤ) (kind thread r : ℕ) (ws′ : List ℤ) → Choose s ws kind thread r ws′ →
       ChooseTells s ws kind thread r ws′

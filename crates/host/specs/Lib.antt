@@ -3,3 +3,4 @@ pub mod Macros
 pub mod Contracts
 pub mod Laws
 pub mod Sessions
+pub mod Roomy

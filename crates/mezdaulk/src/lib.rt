@@ -3,6 +3,7 @@ use answers::Answer;
 use calls::Chosen;
 use calls::State;
 use calls::Stepping;
+use depth::Needed;
 use schedule::Choice;
 use schedule::Scheduled;
 ghost use mathlib.Core.Path.{_≡_};
@@ -47,6 +48,16 @@ pub extern "C" fn mezdaulk_check(table: &[u8]) -> u64
     ensures { λ r. ⌜ Contracts.Check (now (table .entry)) r ⌝ }
 {
     done(verifier::check(table))
+}
+
+#[no_mangle]
+pub extern "C" fn mezdaulk_depth(table: &[u8]) -> u64
+    ensures { λ r. ⌜ Contracts.Depth (now (table .entry)) r ⌝ }
+{
+    match depth::depth(table) {
+        Needed::Frames(frames) => answers::value(frames as u32),
+        Needed::Refused(why) => answers::code(why),
+    }
 }
 
 #[no_mangle]

@@ -9,7 +9,7 @@ use native.Mathlib.Nat.{not-suc-le-zero, le-of-suc-le-suc}
 use native.Mathlib.Numerals.{add-one}
 use native.Mathlib.Omega.{arith}
 use lib.Dec.{eqb}
-use lib.ListN.{length, getElem?, drop}
+use lib.ListN.{length, getD, getElem?, drop, replicate}
 use Rattle.model.specs.Answers.{Refusal, Answer}
 use Rattle.model.specs.Lists.{all, Each, equal, Snoc, snoc, unsnoc}
 pub use borrow.Author.Tests.{ltb-true, ltb-false, leb-true, leb-false, eqb-true, eqb-false, not-true, not-false, lt-ltb, le-ltb, le-leb}
@@ -131,6 +131,12 @@ module _ {A : Type 0} where
   past-at [] i h = refl
   past-at (x ∷ xs) zero h = absurd (not-suc-le-zero h)
   past-at (x ∷ xs) (suc i) h = past-at xs i (le-of-suc-le-suc h)
+
+  -- one thing, however often, at any index
+  pub same-at : (n i : ℕ) (d : A) → getD (replicate n d) i d ≡ d
+  same-at zero i d = refl
+  same-at (suc n) zero d = refl
+  same-at (suc n) (suc i) d = same-at n i d
 
   -- what is left of a list from an index on
   drop-suc : (xs : List A) (i : ℕ) {x : A} → getElem? xs i ≡ some x → drop i xs ≡ x ∷ drop (suc i) xs

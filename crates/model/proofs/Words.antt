@@ -23,7 +23,8 @@ use Rattle.model.specs.Pool.{threadStart, functionOf, children, trees, i
 use Rattle.model.specs.Answers.{Refusal, Answer, with}
 use Rattle.model.specs.Limits.{InFunction, Limits}
 use Rattle.model.specs.Calls.{read, Lent, measured, valid, lent}
-use Rattle.model.proofs.Facts.{refused-given, ltb-true, ltb-false, below-at, each-at, eqb-true, eq-eqb, true-false, and-left}
+use Rattle.model.proofs.Facts.{refused-given, ltb-true, ltb-false, below-at, each-at, eqb-true, eq-eqb, true-false}
+use Rattle.model.proofs.Facts.{and-left, same-at}
 use Rattle.model.proofs.Facts.{and-right, both-and, each-map, each-append}
 use Rattle.model.proofs.Members.{has-below, below-lt}
 use Rattle.model.specs.Valid.{Blank, IsFrame, IsThread, IsPool, FrameFits, ThreadFits, PoolFits}
@@ -296,13 +297,8 @@ lent-given s ws l e =
     })
 
 -- a function's first frame
-getD-zeros : (n x : ℕ) → getD (replicate n (pos 0)) x (pos 0) ≡ pos 0
-getD-zeros zero x = refl
-getD-zeros (suc n) zero = refl
-getD-zeros (suc n) (suc x) = getD-zeros n x
-
 getD-behind : (v̄ : List ℤ) (n x : ℕ) → length v̄ ≤ x → getD (v̄ ++ replicate n (pos 0)) x (pos 0) ≡ pos 0
-getD-behind [] n x h = getD-zeros n x
+getD-behind [] n x h = same-at n x (pos 0)
 getD-behind (v ∷ v̄) n zero h = absurd (omega arith)
 getD-behind (v ∷ v̄) n (suc x) h = getD-behind v̄ n x (omega arith)
 

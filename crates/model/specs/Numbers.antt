@@ -71,6 +71,10 @@ promoted = 20
 abbrev pub threads : ℕ
 threads = 21
 
+-- the calls of an accepted table (22)
+abbrev pub cycle : ℕ
+cycle = 22
+
 -- the rules (1 to 10), in the order of document 01
 abbrev pub stmt : ℕ
 stmt = 1

@@ -1,5 +1,5 @@
--- A schedule leaves the words that its choices leave when they are put one by one. So schedules and lists of calls leave typed
--- words typed, and what holds of every choice on typed words holds of each choice in them.
+-- A schedule leaves the words that its choices leave when they are put one by one. So what every single choice keeps of the words,
+-- schedules and lists of calls keep; and what holds of every choice put with such words holds of each choice in them.
 use Prim.Native.Nat.{ℕ}
 use mathlib.Core.Path.{_≡_, refl, sym, _∙_, ap}
 use mathlib.Core.List.{List, [], _∷_}
@@ -15,7 +15,6 @@ use Rattle.model.proofs.Words.{lent-words, lent-given}
 use Rattle.model.proofs.Kept.{choice-kept, choose-lent}
 use Rattle.model.proofs.Guarantees.{read-limits}
 use Rattle.safety.specs.NeverJams.{Call, Put, left, finally, whileGiven, ofSchedule, ofCall, choices}
-use Rattle.safety.proofs.Words.{Table, Good, good-after}
 
 -- the words as choices leave them, each put with its own words
 unfoldable pub leftBy : List ℕ → List ℤ → List Put → List ℤ
@@ -71,60 +70,58 @@ schedule-left s ws [] = go (lent s ws) refl
     go (Answer.refused r) e = schedule-refused s ws [] r e
 schedule-left s ws (c ∷ cs) = turn s ws cs (λ ws′. schedule-left s ws′ cs) c (lent s ws) refl
 
-module _ {s : List ℕ} (T : Table s) where
+-- what every single choice keeps of the words, schedules and lists of calls keep
+module _ (s : List ℕ) (I : List ℤ → Type 0)
+    (kept : (ws : List ℤ) → I ws → (kind i : ℕ) → I (Calls.choose s ws kind i .after)) where
   -- a schedule, as its choices
-  while-good : {ws : List ℤ} (a : Answer ℕ) (ps : List Put) → Good T ws → Good T (leftBy s ws ps) →
-      Good T (leftBy s ws (whileGiven a ps))
+  while-kept : {ws : List ℤ} (a : Answer ℕ) (ps : List Put) → I ws → I (leftBy s ws ps) → I (leftBy s ws (whileGiven a ps))
   unfolding whileGiven leftBy
-  while-good (Answer.given rule) ps g h = h
-  while-good (Answer.refused r) ps g h = g
+  while-kept (Answer.given rule) ps g h = h
+  while-kept (Answer.refused r) ps g h = g
 
-  choices-good : {ws : List ℤ} (cs : List Choice) → Good T ws → Good T (leftBy s ws (ofSchedule s ws cs))
+  choices-kept : {ws : List ℤ} (cs : List Choice) → I ws → I (leftBy s ws (ofSchedule s ws cs))
   unfolding ofSchedule leftBy
-  choices-good [] g = g
-  choices-good {ws} (c ∷ cs) g =
-      let h = good-after g (c .kind) (c .thread) in
+  choices-kept [] g = g
+  choices-kept {ws} (c ∷ cs) g =
+      let h = kept ws g (c .kind) (c .thread) in
       let d = Calls.choose s ws (c .kind) (c .thread) in
-      while-good (d .answer) (ofSchedule s (d .after) cs) h (choices-good cs h)
+      while-kept (d .answer) (ofSchedule s (d .after) cs) h (choices-kept cs h)
 
-  good-schedule : {ws : List ℤ} (cs : List Choice) → Good T ws → Good T (Calls.schedule s ws cs .after)
-  good-schedule {ws} cs g = rw (schedule-left s ws cs) (choices-good cs g)
+  left-kept : {ws : List ℤ} (c : Call) → I ws → I (left s ws c)
+  left-kept {ws} (Call.choose kind i) g = kept ws g kind i
+  left-kept {ws} (Call.schedule cs) g = rw (schedule-left s ws cs) (choices-kept cs g)
+  left-kept Call.which g = g
+  left-kept Call.values g = g
 
-  pub good-left : {ws : List ℤ} (c : Call) → Good T ws → Good T (left s ws c)
-  good-left (Call.choose kind i) g = good-after g kind i
-  good-left (Call.schedule cs) g = good-schedule cs g
-  good-left Call.which g = g
-  good-left Call.values g = g
-
-  pub good-finally : {ws : List ℤ} (cs : List Call) → Good T ws → Good T (finally s ws cs)
+  pub finally-kept : {ws : List ℤ} (cs : List Call) → I ws → I (finally s ws cs)
   unfolding finally
-  good-finally [] g = g
-  good-finally (c ∷ cs) g = good-finally cs (good-left c g)
+  finally-kept [] g = g
+  finally-kept (c ∷ cs) g = finally-kept cs (left-kept c g)
 
-  -- what holds of every choice on typed words
+  -- what holds of every choice put with such words holds of each choice in them
   module _ (Q : Put → Type 0)
-      (q : (ws : List ℤ) → Good T ws → (kind i : ℕ) → Q (record { words = ws; kind = kind; thread = i })) where
+      (q : (ws : List ℤ) → I ws → (kind i : ℕ) → Q (record { words = ws; kind = kind; thread = i })) where
     while-each : (a : Answer ℕ) (ps : List Put) → Each Q ps → Each Q (whileGiven a ps)
     unfolding whileGiven
     while-each (Answer.given rule) ps h = h
     while-each (Answer.refused r) ps h = tt
 
-    schedule-each : {ws : List ℤ} (cs : List Choice) → Good T ws → Each Q (ofSchedule s ws cs)
+    schedule-each : {ws : List ℤ} (cs : List Choice) → I ws → Each Q (ofSchedule s ws cs)
     unfolding ofSchedule
     schedule-each [] g = tt
-    schedule-each (c ∷ cs) g =
-        let h = schedule-each cs (good-after g (c .kind) (c .thread)) in
-        (q _ g (c .kind) (c .thread), while-each _ _ h)
+    schedule-each {ws} (c ∷ cs) g =
+        let h = schedule-each cs (kept ws g (c .kind) (c .thread)) in
+        (q ws g (c .kind) (c .thread), while-each _ _ h)
 
-    call-each : {ws : List ℤ} (c : Call) → Good T ws → Each Q (ofCall s ws c)
+    pub call-each : {ws : List ℤ} (c : Call) → I ws → Each Q (ofCall s ws c)
     unfolding ofCall
-    call-each (Call.choose kind i) g = (q _ g kind i, tt)
+    call-each {ws} (Call.choose kind i) g = (q ws g kind i, tt)
     call-each (Call.schedule cs) g = schedule-each cs g
     call-each Call.which g = tt
     call-each Call.values g = tt
 
-    pub calls-each : {ws : List ℤ} (cs : List Call) → Good T ws → Each Q (choices s ws cs)
+    pub calls-each : {ws : List ℤ} (cs : List Call) → I ws → Each Q (choices s ws cs)
     unfolding choices
     calls-each [] g = tt
     calls-each {ws} (c ∷ cs) g =
-        each-append Q (ofCall s ws c) (choices s (left s ws c) cs) (call-each c g) (calls-each cs (good-left c g))
+        each-append Q (ofCall s ws c) (choices s (left s ws c) cs) (call-each c g) (calls-each cs (left-kept c g))

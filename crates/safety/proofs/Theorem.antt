@@ -1,24 +1,25 @@
 -- Demand 3, proved, and what follows from it.
 use Prim.Native.Nat.{ℕ}
 use mathlib.Core.Path.{_≡_, refl, sym, ap}
-use mathlib.Core.Logic.{_⊎_, inl, inr}
+use mathlib.Core.Logic.{inl, inr}
 use mathlib.Core.List.{List, []}
 use lib.IntN.{ℤ}
 use lib.ListN.{length}
 use Rattle.model.specs.Numbers as No
 use Rattle.model.specs.Answers.{Refusal, Answer, with}
+use Rattle.model.specs.Syntax.{Program}
 use Rattle.model.specs.Pool.{poolWords, wordsOf, born, begin, started}
 use Rattle.model.specs.Calls as Calls
-use Rattle.model.specs.Calls.{Lent, Called, lent, check, measured, lentWords, starting, start}
+use Rattle.model.specs.Calls.{Lent, Called, lent, read, check, measured, lentWords, starting, start}
 use Rattle.model.proofs.Facts.{eq-eqb}
 use Rattle.model.proofs.Accepted.{check-wf}
 use Rattle.model.proofs.Guarantees.{read-limits}
 use Rattle.model.proofs.Words.{started-pool}
-use Rattle.safety.specs.NeverJams.{Call, Answered, Joined, Returned, CanStep, OutOfFrames, Stands, finally, Safe, Demand3}
+use Rattle.safety.specs.NeverJams.{Call, Answered, Joined, Returned, CanStep, OutOfFrames, Moves, Stands, finally, Safe, Demand3}
 use Rattle.safety.proofs.Typing.{Typed}
 use Rattle.safety.proofs.Frames.{begins}
-use Rattle.safety.proofs.Words.{Table, Good, good-lent, good-answered, good-joined, good-stands, good-waiting}
-use Rattle.safety.proofs.Schedules.{good-finally, calls-each}
+use Rattle.safety.proofs.Words.{Table, Good, good-lent, good-after, good-answered, good-joined, good-stands, good-waiting}
+use Rattle.safety.proofs.Schedules.{finally-kept, calls-each}
 
 -- the table that the check accepts
 accepted : (s : List ℕ) → check s ≡ Answer.given tt → Table s
@@ -26,11 +27,11 @@ accepted s h =
     let r = check-wf s h in
     record { program = r .0; reads = r .1; formed = r .2 }
 
--- the start: one thread at main's entry
-starts : {s : List ℕ} (T : Table s) (ws : List ℤ) → length ws ≡ poolWords →
+-- the start, of any table that reads: one thread at main's entry
+pub starts : (s : List ℕ) (ws : List ℤ) {P : Program} → read s ≡ Answer.given P → length ws ≡ poolWords →
     start s ws ≡ record { answer = Answer.given tt; after = wordsOf started }
 unfolding start starting lentWords with measured
-starts T ws n = rw (T .reads, eq-eqb (length ws) poolWords n)
+starts s ws r n = rw (r, eq-eqb (length ws) poolWords n)
 
 good-start : {s : List ℕ} (T : Table s) → Good T (wordsOf started)
 unfolding started
@@ -47,15 +48,18 @@ good-start {s} T =
       typed = (t, rw (b .owes) tt);
     }
 
+good-finally : {s : List ℕ} (T : Table s) {ws : List ℤ} (cs : List Call) → Good T ws → Good T (finally s ws cs)
+good-finally {s} T cs g = finally-kept s (Good T) (λ _ g. good-after g) cs g
+
 module _ {s : List ℕ} (T : Table s) (ws : List ℤ) (n : length ws ≡ poolWords) where
   good-started : Good T (start s ws .after)
-  good-started = rw (starts T ws n) (good-start T)
+  good-started = rw (starts s ws (T .reads) n) (good-start T)
 
   safe : (cs : List Call) → Safe s (start s ws .after) cs
   safe cs =
       record {
-        answered = calls-each T (Answered s) (λ _ g kind i. good-answered g kind i) cs good-started;
-        joined = calls-each T (Joined s) (λ _ g kind i. good-joined g kind i) cs good-started;
+        answered = calls-each s (Good T) (λ _ g. good-after g) (Answered s) (λ _ g kind i. good-answered g kind i) cs good-started;
+        joined = calls-each s (Good T) (λ _ g. good-after g) (Joined s) (λ _ g kind i. good-joined g kind i) cs good-started;
         stands = good-stands (good-finally T cs good-started);
       }
 
@@ -63,7 +67,7 @@ module _ {s : List ℕ} (T : Table s) (ws : List ℤ) (n : length ws ≡ poolWor
 pub demand3 : Demand3
 demand3 s ws h n =
     let T = accepted s h in
-    record { starts = ap (λ (c : Called (Unit {0})). c .answer) (starts T ws n); safe = safe T ws n }
+    record { starts = ap (λ (c : Called (Unit {0})). c .answer) (starts s ws (T .reads) n); safe = safe T ws n }
 
 -- the words that calls leave after the start
 abbrev pub now : List ℕ → List ℤ → List Call → List ℤ
@@ -89,5 +93,5 @@ module _ (s : List ℕ) (ws : List ℤ) (h : check s ≡ Answer.given tt) (n : l
 
   -- where the step of a thread waits (17), some thread can step or is out of frames
   pub waiting-moves : (i : ℕ) → Calls.choose s (now s ws cs) 0 i .answer ≡ Answer.refused (Refusal.plain No.waits) →
-      CanStep s (now s ws cs) ⊎ OutOfFrames s (now s ws cs)
+      Moves s (now s ws cs)
   waiting-moves i e = good-waiting good-now i e

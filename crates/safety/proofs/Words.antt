@@ -24,7 +24,7 @@ use Rattle.model.proofs.Valid.{pool-facts}
 use Rattle.model.proofs.Words.{lent-words}
 use Rattle.model.proofs.Kept.{choice-kept, choose-lent}
 use Rattle.model.proofs.Guarantees.{read-limits}
-use Rattle.safety.specs.NeverJams.{Answered, Joined, CanStep, OutOfFrames, Stands}
+use Rattle.safety.specs.NeverJams.{Answered, Joined, Moves, Stands}
 use Rattle.safety.proofs.Typing.{Typed, Forest}
 use Rattle.safety.proofs.Steps.{ends}
 use Rattle.safety.proofs.Pools.{Chosen, chosen, Moving, progress, waiting}
@@ -34,7 +34,7 @@ refused-same : {A : Type 0} {q r : Refusal} → _≡_ {A = Answer A} (Answer.ref
 refused-same e = cc
 
 -- the number in a refusal
-refused-number : {A : Type 0} {n : ℕ} {r : Refusal} → _≡_ {A = Answer A} (Answer.refused (Refusal.plain n)) (Answer.refused r) →
+pub refused-number : {A : Type 0} {n : ℕ} {r : Refusal} → _≡_ {A = Answer A} (Answer.refused (Refusal.plain n)) (Answer.refused r) →
     n ≡ numberOf r
 unfolding numberOf
 refused-number e = ap numberOf (refused-same e)
@@ -131,15 +131,14 @@ module _ {s : List ℕ} {T : Table s} {ws : List ℤ} (g : Good T ws) where
   unfolding choice
   good-step i e = good-choose 0 i ∙ ap (made ws) e
 
-  moves : Moving (T .program) (g .pool) → CanStep s ws ⊎ OutOfFrames s ws
+  moves : Moving (T .program) (g .pool) → Moves s ws
   unfolding made
   moves (Moving.makes i {rule = rule} e q) =
       inl (record { thread = i; rule = rule; makes = ap (λ (c : Called ℕ). c .answer) (good-step i e); ordinary = q })
   moves (Moving.lacks i e) = inr (record { thread = i; gets = ap (λ (c : Called ℕ). c .answer) (good-step i e) })
 
   -- where a thread waits, something moves
-  pub good-waiting : (i : ℕ) → Calls.choose s ws 0 i .answer ≡ Answer.refused (Refusal.plain No.waits) →
-      CanStep s ws ⊎ OutOfFrames s ws
+  pub good-waiting : (i : ℕ) → Calls.choose s ws 0 i .answer ≡ Answer.refused (Refusal.plain No.waits) → Moves s ws
   unfolding choice
   good-waiting i e =
       let x = onThread (step (T .program)) (g .pool) i in

@@ -128,8 +128,12 @@ pub record OutOfFrames (s : List ℕ) (ws : List ℤ) : Type 0 where
   pub thread : ℕ
   pub gets : Calls.choose s ws 0 thread .answer ≡ Answer.refused (Refusal.plain No.frames)
 
+-- what can go on
+abbrev pub Moves : List ℕ → List ℤ → Type 0
+Moves s ws = CanStep s ws ⊎ OutOfFrames s ws
+
 abbrev pub Stands : List ℕ → List ℤ → Type 0
-Stands s ws = Returned s ws ⊎ (CanStep s ws ⊎ OutOfFrames s ws)
+Stands s ws = Returned s ws ⊎ Moves s ws
 
 -- the claim, about the whole list of calls put from the words ws on
 pub record Safe (s : List ℕ) (ws : List ℤ) (cs : List Call) : Type 0 where

@@ -8,7 +8,7 @@ use mathlib.Core.Logic.{_≢_}
 use mathlib.Core.Option.{Option, none, some}
 use mathlib.Core.List.{List, [], _∷_}
 use lib.Dec.{eqb}
-use lib.ListN.{length, getD, getElem?, replicate, length-set, length-replicate}
+use lib.ListN.{length, getD, getElem?, length-set, length-replicate}
 use lib.Seq.{getD-set-same, getD-set-other}
 use borrow.Author.Tests.{eq-eqb, ne-eqb, eqb-true, eqb-false}
 use Rattle.model.specs.Read.{Parsed, Parser, next, byte, many, counted, spawnCall, blockBy, functionBy, programBy}
@@ -16,6 +16,7 @@ use Rattle.model.specs.Read as Read
 use Rattle.model.specs.Syntax.{Head, Block, Function, Program}
 use Rattle.model.specs.Pool.{blockIn}
 use Rattle.model.specs.Limits.{InHead, Limits}
+use Rattle.model.proofs.Facts.{same-at}
 use Rattle.model.proofs.Reading.{ok-value, ok-offset, Both, next-ok, byte-ok, many-uncons, counted-ok}
 use Rattle.model.proofs.Guarantees as Guarantees
 use Rattle.model.proofs.Guarantees.{Gives}
@@ -257,14 +258,9 @@ getD-any [] i d e h = absurd (omega arith)
 getD-any (x ∷ xs) zero d e h = refl
 getD-any (x ∷ xs) (suc i) d e h = getD-any xs i d e (omega arith)
 
-all-default : (n k d : ℕ) → getD (replicate n d) k d ≡ d
-all-default zero k d = refl
-all-default (suc n) zero d = refl
-all-default (suc n) (suc k) d = all-default n k d
-
 none-there : (k : ℕ) → getD nowhere k absent ≡ absent
 unfolding nowhere
-none-there k = all-default Layout.len k absent
+none-there k = same-at Layout.len k absent
 
 none-long : length nowhere ≡ Layout.len
 unfolding nowhere

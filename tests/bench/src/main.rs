@@ -13,6 +13,7 @@ use looping::Looping;
 use mezdaulk::lent;
 use oracle::table::TABLE_MAX;
 use std::hint::black_box;
+use tables::Calls;
 
 const MIDDLE: usize = 2_000;
 const CHOICES: usize = 1_000_000;
@@ -20,17 +21,19 @@ const CHOICES: usize = 1_000_000;
 fn main() {
     println!("| Call | Table | Library | Fast | Ratio of best | Median ratio | Aim |");
     println!("|---|---|---|---|---|---|---|");
-    let sets = [
-        ("30 to 60 bytes", tables::small()),
-        ("2,000 bytes", tables::sized(MIDDLE)),
-        ("16,384 bytes", tables::sized(TABLE_MAX)),
-    ];
-    let reads = sets
-        .each_ref()
-        .map(|(name, set)| row("read", name, Some(1.2), read(set), 1));
-    let checks = sets
-        .each_ref()
-        .map(|(name, set)| row("check", name, Some(1.2), check(set), 1));
+    let any = sets(Calls::Any);
+    let later = sets(Calls::Later);
+    let dense = tables::dense();
+    let dense_name = format!("dense, {} bytes", dense[0].len());
+    let rows = |call, sets: &Sets, time: fn(&[Vec<u8>]) -> Duel| {
+        sets.each_ref()
+            .map(|(name, set)| row(call, name, Some(1.2), time(set), 1))
+    };
+    let reads = rows("read", &any, read);
+    let checks = rows("check", &any, check);
+    row("check", &dense_name, Some(1.2), check(&dense), 1);
+    let depths = rows("depth", &later, depth);
+    row("depth", &dense_name, Some(1.2), depth(&dense), 1);
     let small = looping::small(CHOICES);
     let rich = looping::rich(CHOICES);
     let runs: Vec<Looping> = [&small, &rich]
@@ -58,9 +61,21 @@ fn main() {
             )
         })
         .collect();
-    growth(&sets, &reads, &checks, &runs, &schedules);
+    growth([(&any, &reads), (&any, &checks), (&later, &depths)]);
+    same_program(&runs, &schedules);
     runner::time(&small, CHOICES);
     runner::time(&rich, CHOICES);
+}
+
+/// Tables of three sizes, by name.
+type Sets = [(&'static str, Vec<Vec<u8>>); 3];
+
+fn sets(calls: Calls) -> Sets {
+    [
+        ("30 to 60 bytes", tables::small(calls)),
+        ("2,000 bytes", tables::sized(MIDDLE, calls)),
+        ("16,384 bytes", tables::sized(TABLE_MAX, calls)),
+    ]
 }
 
 /// Prints one line of the table; the times are of a `parts`th of a call.
@@ -94,6 +109,17 @@ fn check(tables: &[Vec<u8>]) -> Duel {
         tables,
         |table| mezdaulk::check(table).is_ok(),
         |table| fast::check(table).is_ok(),
+    )
+}
+
+fn depth(tables: &[Vec<u8>]) -> Duel {
+    for table in tables {
+        assert_eq!(mezdaulk::depth(table).ok(), fast::depth(table).ok());
+    }
+    each(
+        tables,
+        |table| mezdaulk::depth(table).is_ok(),
+        |table| fast::depth(table).is_ok(),
     )
 }
 
@@ -196,21 +222,23 @@ fn schedule(run: &Looping) -> Duel {
     duel
 }
 
-/// How the library's times grow with the table.
-fn growth(
-    sets: &[(&str, Vec<Vec<u8>>); 3],
-    reads: &[Duel; 3],
-    checks: &[Duel; 3],
-    runs: &[Looping],
-    schedules: &[Duel],
-) {
-    println!("\n| Table | read, each byte | check, each byte |");
-    println!("|---|---|---|");
-    for (((name, set), read), check) in sets.iter().zip(reads).zip(checks) {
-        let bytes: usize = set.iter().map(Vec::len).sum();
-        let each = |duel: &Duel| show(duel.library * set.len() as f64 / bytes as f64);
-        println!("| {name} | {} | {} |", each(read), each(check));
+/// How the library's times of reading, checking and the depth grow with the
+/// table.
+fn growth(calls: [(&Sets, &[Duel; 3]); 3]) {
+    println!("\n| Table | read, each byte | check, each byte | depth, each byte |");
+    println!("|---|---|---|---|");
+    for size in 0..3 {
+        let each = calls.map(|(sets, duels)| {
+            let (_, set) = &sets[size];
+            let bytes: usize = set.iter().map(Vec::len).sum();
+            show(duels[size].library * set.len() as f64 / bytes as f64)
+        });
+        println!("| {} | {} |", calls[0].0[size].0, each.join(" | "));
     }
+}
+
+/// That a choice of a schedule takes the same in a larger table.
+fn same_program(runs: &[Looping], schedules: &[Duel]) {
     println!("\n| The same program in a table of | schedule, each of 1,000,000 |");
     println!("|---|---|");
     for (run, schedule) in runs.iter().zip(schedules) {

@@ -1,8 +1,9 @@
 //! The fast implementation gives the second implementation's answers.
 
 use fast::Fast;
-use oracle::gen::scenario;
-use oracle::machine::differences;
+use oracle::encode::encode;
+use oracle::gen::{calls, faults, scenario};
+use oracle::machine::{differences, tables_differ};
 use oracle::rng::Rng;
 
 #[test]
@@ -11,5 +12,19 @@ fn same_answers() {
         let input = scenario(&mut Rng::of_round(7, round));
         let found = differences(&Fast, &input);
         assert!(found.is_empty(), "round {round}: {found:?}");
+    }
+}
+
+/// Tables rich in calls, as they are and with a fault.
+#[test]
+fn same_depths() {
+    for round in 0..4_000 {
+        let rng = &mut Rng::of_round(8, round);
+        let mut program = calls::calling(rng).program;
+        let found = tables_differ(&Fast, &encode(&program));
+        assert!(found.is_empty(), "round {round}: {found:?}");
+        faults::plant_any(rng, &mut program);
+        let found = tables_differ(&Fast, &encode(&program));
+        assert!(found.is_empty(), "round {round}, with a fault: {found:?}");
     }
 }

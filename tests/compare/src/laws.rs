@@ -9,6 +9,7 @@ use oracle::Refusal;
 const POOL_WORDS: usize = 1673;
 const PROMOTE: u32 = 1;
 const OPEN: u32 = 255;
+const CYCLE: u8 = 22;
 
 fn is_given(number: u64) -> bool {
     number >> 32 & 1 == 1
@@ -61,6 +62,7 @@ pub struct Call {
 
 pub const READ: Call = call("read", &[(0, 0)], &[(1, 3)]);
 pub const CHECK: Call = call("check", &[(0, 0)], &[(1, 11)]);
+pub const DEPTH: Call = call("depth", &[(1, 16)], &[(1, 11), (CYCLE, CYCLE)]);
 const START: Call = call("start", &[(0, 0)], &[(1, 3), (12, 12)]);
 const CHOOSE: Call = call("choose", &[(1, 10)], &[(1, 3), (12, 21)]);
 pub const WHICH: Call = call("which", &[(0, 8)], &[(1, 3), (12, 13)]);
@@ -117,6 +119,9 @@ const AT_BLOCK: &str = "law: a fault at a block below 32";
 const AT_SPAWN: &str = "law: a fault at a spawn call, with block 255";
 const AT_MAIN: &str = "law: a fault of main, with block 255";
 const FUNCTION: &str = "law: a fault's function is one of the table's";
+const ACCEPTED: &str = "law: a depth or 22 exactly where the check accepts";
+const REFUSED: &str = "law: a depth refused as the check is";
+const FUNCTIONS: &str = "law: a depth of at most the table's functions";
 const FRESH: &str = "law: a start leaves a fresh pool";
 const NO_START: &str = "law: a refused start leaves the words";
 const STEPS: &str = "law: a step makes one of rules 1 to 9";
@@ -133,15 +138,15 @@ const AROUND: &str = "law: memory around what is lent stays";
 const WRAPPED: &str = "law: the wrapper answers and writes the same";
 const OWNED: &str = "law: the wrapper's own pool answers and writes the same";
 
-const LAWS: [&str; 21] = [
-    UNUSED, PLACED, AT_BLOCK, AT_SPAWN, AT_MAIN, FUNCTION, FRESH, NO_START, STEPS, PROMOTES,
-    NO_CHOICE, ALL_MADE, NONE_MADE, STOPPED, BEHIND, NO_VALUES, UNANSWERED, ONLY_READ, AROUND,
-    WRAPPED, OWNED,
+const LAWS: [&str; 24] = [
+    UNUSED, PLACED, AT_BLOCK, AT_SPAWN, AT_MAIN, FUNCTION, ACCEPTED, REFUSED, FUNCTIONS, FRESH,
+    NO_START, STEPS, PROMOTES, NO_CHOICE, ALL_MADE, NONE_MADE, STOPPED, BEHIND, NO_VALUES,
+    UNANSWERED, ONLY_READ, AROUND, WRAPPED, OWNED,
 ];
 
 /// What must occur: every law, and every answer of every call.
 pub fn events() -> Vec<String> {
-    let calls = [READ, CHECK, START, CHOOSE, WHICH, VALUES, SCHEDULE];
+    let calls = [READ, CHECK, DEPTH, START, CHOOSE, WHICH, VALUES, SCHEDULE];
     LAWS.iter()
         .map(|law| law.to_string())
         .chain(calls.iter().flat_map(Call::events))
@@ -212,6 +217,19 @@ impl Laws {
             255 if fault == 4 => self.assert(AT_MAIN, number, function(number) == 0),
             255 => self.assert(AT_SPAWN, number, matches!(fault, 6 | 9)),
             block => self.assert(AT_BLOCK, number, fault != 4 && block < 32),
+        }
+    }
+
+    /// A depth's number beside the one that the check answered for the same
+    /// table.
+    pub fn depth(&mut self, table: &[u8], number: u64, checked: u64) {
+        let depth = is_given(number) || refused(number) == CYCLE;
+        self.assert(ACCEPTED, number, is_given(checked) == depth);
+        if !depth {
+            self.assert(REFUSED, number, number == checked);
+        } else if is_given(number) {
+            let functions = *table.get(5).unwrap_or(&0);
+            self.assert(FUNCTIONS, number, value(number) <= functions.into());
         }
     }
 

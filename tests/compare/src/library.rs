@@ -2,7 +2,7 @@
 //! copies of the memory and with the laws asserted, and then by the wrapper: on
 //! the memory lent, and where that is as long as a pool on a pool of its own.
 
-use crate::laws::{answer_in, stops, Call, Laws, CHECK, READ, WHICH};
+use crate::laws::{answer_in, stops, Call, Laws, CHECK, DEPTH, READ, WHICH};
 use crate::lent::Lent;
 use mezdaulk::{lent, raw, Choice, Place, Pool, Refusal as Wrapped};
 use oracle::gen::schedules::Choice as Pair;
@@ -70,21 +70,26 @@ impl Library {
         }
     }
 
-    /// A call on a table alone.
+    /// A call on a table alone: the number, and the answer in it.
     fn asked(
         &self,
         call: &'static Call,
         table: &[u8],
         exported: unsafe extern "C" fn(*const u8, usize) -> u64,
-        wrapper: fn(&[u8]) -> Result<(), Wrapped>,
-    ) -> Result<(), Refusal> {
+        wrapped: Result<u32, Wrapped>,
+    ) -> (u64, Result<u32, Refusal>) {
         let mut bytes = Lent::new(table, BYTE);
         let number = unsafe { exported(bytes.pointer(), table.len()) };
         self.laws().answer(call, table, number);
         let only_read = bytes.left() == table;
         self.laws().memory(number, only_read, bytes.guarded());
-        let wrapped = wrapper(table).map(|()| 0);
-        self.answer(number, wrapped, true).map(|_| ())
+        (number, self.answer(number, wrapped, true))
+    }
+
+    /// Whether a table is accepted, with the number.
+    fn checked(&self, table: &[u8]) -> (u64, Result<u32, Refusal>) {
+        let wrapped = mezdaulk::check(table).map(|()| 0);
+        self.asked(&CHECK, table, raw::mezdaulk_check, wrapped)
     }
 
     /// The number that a choice gets.
@@ -143,11 +148,21 @@ fn narrow((kind, thread): Pair) -> Choice {
 
 impl Machine for Library {
     fn read(&self, table: &[u8]) -> Result<(), Refusal> {
-        self.asked(&READ, table, raw::mezdaulk_read, mezdaulk::read)
+        let wrapped = mezdaulk::read(table).map(|()| 0);
+        let (_, answer) = self.asked(&READ, table, raw::mezdaulk_read, wrapped);
+        answer.map(|_| ())
     }
 
     fn check(&self, table: &[u8]) -> Result<(), Refusal> {
-        self.asked(&CHECK, table, raw::mezdaulk_check, mezdaulk::check)
+        self.checked(table).1.map(|_| ())
+    }
+
+    fn depth(&self, table: &[u8]) -> Result<u8, Refusal> {
+        let wrapped = mezdaulk::depth(table).map(u32::from);
+        let (number, answer) = self.asked(&DEPTH, table, raw::mezdaulk_depth, wrapped);
+        let (checked, _) = self.checked(table);
+        self.laws().depth(table, number, checked);
+        answer.map(|frames| frames as u8)
     }
 
     fn start(&self, table: &[u8], pool: &mut [i32]) -> Result<(), Refusal> {

@@ -1,8 +1,8 @@
 //! Puts random tables, pools and choices to every call of the library and of
 //! the second implementation and compares the answers, refusals with their
 //! places, and what is written; asserts the laws of every number answered and
-//! of the memory lent; and asserts demand 3 of the library on random runs of
-//! accepted tables.
+//! of the memory lent; and asserts demand 3 of the library, and what depths
+//! say, on random runs of accepted tables.
 //!
 //! `compare SEED COUNT`; the last line is `compare: N passed, M failed`.
 
@@ -13,9 +13,10 @@ mod runs;
 
 use library::Library;
 use oracle::encode::encode;
+use oracle::gen::calls::{self, Calling};
 use oracle::gen::faults::{self, Kind};
 use oracle::gen::{programs, scenario, Source, NOTES};
-use oracle::machine::{differences, tables_differ};
+use oracle::machine::{differences, tables_differ, Machine};
 use oracle::rng::Rng;
 use oracle::table::{Program, TABLE_MAX};
 use oracle::tally::Tally;
@@ -41,6 +42,7 @@ fn main() -> ExitCode {
         compare_faults(&mut tally, &library, &mut rng, &program);
         runs::check_run(&mut tally, &library, &mut rng, &program);
         note_program(&mut tally, &program);
+        compare_calls(&mut tally, &library, &mut rng);
         library.count(&mut tally);
     }
     tally.finish()
@@ -50,6 +52,7 @@ fn main() -> ExitCode {
 fn events() -> Vec<String> {
     let mut events: Vec<String> = (0..=4).map(join_event).collect();
     events.extend(Kind::ALL.map(|kind| format!("fault {kind:?}")));
+    events.extend(calls::Kind::ALL.map(calls::Kind::event));
     events.extend(watch::SHAPES.map(String::from));
     events.extend(watch::EVENTS.map(String::from));
     events.extend(Source::ALL.map(|source| format!("scenario {source:?}")));
@@ -79,7 +82,25 @@ fn compare_scenario(tally: &mut Tally, library: &Library, rng: &mut Rng) {
     }
 }
 
-/// Reading and checking with one fault of each kind in turn, and with two.
+/// A table rich in calls, as it is and with faults, and a run of it.
+fn compare_calls(tally: &mut Tally, library: &Library, rng: &mut Rng) {
+    let Calling {
+        kind,
+        program,
+        known,
+    } = calls::calling(rng);
+    tally.event(&kind.event());
+    let table = encode(&program);
+    compare_table(tally, library, &table);
+    let depth = library.depth(&table).map_err(|refusal| refusal.number);
+    tally.expect(known.is_none() || known == Some(depth), || {
+        format!("{known:?} is the depth, {depth:?} given: {table:02x?}")
+    });
+    compare_faults(tally, library, rng, &program);
+    runs::check_run(tally, library, rng, &program);
+}
+
+/// The calls on a table with one fault of each kind in turn, and with two.
 fn compare_faults(tally: &mut Tally, library: &Library, rng: &mut Rng, program: &Program) {
     let kind = Kind::ALL[tally.round as usize % Kind::ALL.len()];
     let mut one = program.clone();

@@ -1,11 +1,12 @@
 //! Demand 3 of a machine's own functions, as `crates/host/specs/Sessions.antt`
-//! states it, on random runs of accepted tables. The second implementation
-//! chooses and makes the same run, and every answer is compared with its own.
+//! states it, and what the depth of a table says beside it, on random runs of
+//! accepted tables. The second implementation chooses and makes the same run,
+//! and every answer is compared with its own.
 
 use oracle::encode::encode;
 use oracle::gen::schedules::{guided_choice, guided_schedule, Choice, Order, Policy};
 use oracle::machine::Machine;
-use oracle::pool::Pool;
+use oracle::pool::{Pool, MAX_FRAMES, MAX_THREADS};
 use oracle::rng::Rng;
 use oracle::rules::{self, ended, steppable, Rule, PROMOTE, STEP};
 use oracle::table::Program;
@@ -14,7 +15,9 @@ use oracle::watch::{self, join, join_event};
 use oracle::{Refusal, POOL_WORDS};
 
 /// What must occur, by name.
-pub const EVENTS: [&str; 6] = [RETURNED, LONG, FULL, REFUSED, WAITS, WAITS_FULL];
+pub const EVENTS: [&str; 10] = [
+    RETURNED, LONG, FULL, REFUSED, WAITS, WAITS_FULL, ROOMY, AT_DEPTH, DEEP, CYCLIC,
+];
 
 const RETURNED: &str = "run that returned";
 const LONG: &str = "run of 1000 choices that goes on";
@@ -22,6 +25,15 @@ const FULL: &str = "run with every thread at a full stack";
 const REFUSED: &str = "run that goes on after a refusal";
 const WAITS: &str = "run with a thread that waits, and one that can step";
 const WAITS_FULL: &str = "run with a thread that waits, and none but full stacks";
+
+const ROOMY: &str = "run at a depth of at most 8";
+const AT_DEPTH: &str = "run with as many frames as the depth, 2 to 8";
+const DEEP: &str = "run that gets 18 at a depth above 8";
+const CYCLIC: &str = "run that gets 18 where the depth is 22";
+
+/// Where the number of a thread's frames stands in a pool's words.
+const FIRST_THREAD: usize = 1;
+const THREAD_WORDS: usize = 209;
 
 /// A run of an accepted table on a machine.
 struct Run<'a> {
@@ -31,6 +43,8 @@ struct Run<'a> {
     words: Vec<i32>,
     /// The second implementation's pool, which the words must hold.
     pool: Pool,
+    /// The table's depth, where it has one.
+    depth: Option<u8>,
 }
 
 /// Starts a run and puts some lists of choices to it, refused ones among
@@ -42,12 +56,22 @@ pub fn check_run(tally: &mut Tally, machine: &dyn Machine, rng: &mut Rng, progra
         table: encode(program),
         words: (0..POOL_WORDS).map(|_| rng.bits() as i32).collect(),
         pool: Pool::start(),
+        depth: None,
     };
     tally.expect(oracle::check(&run.table).is_ok(), || {
         format!("a faulty table: {:02x?}", run.table)
     });
     let checked = machine.check(&run.table);
     tally.expect(checked.is_ok(), || format!("not accepted: {checked:?}"));
+    let depth = machine.depth(&run.table);
+    let due = oracle::depth(&run.table);
+    tally.expect(depth == due, || {
+        format!("the depth is {due:?}, {depth:?} given")
+    });
+    run.depth = depth.ok();
+    if run.roomy() {
+        tally.event(ROOMY);
+    }
     let started = machine.start(&run.table, &mut run.words);
     tally.expect(started.is_ok(), || format!("no start: {started:?}"));
     run.stands(tally);
@@ -75,8 +99,30 @@ fn policy(rng: &mut Rng) -> Policy {
 }
 
 impl Run<'_> {
+    /// Whether no thread ever runs out of frames, by the depth.
+    fn roomy(&self) -> bool {
+        self.depth
+            .is_some_and(|depth| usize::from(depth) <= MAX_FRAMES)
+    }
+
+    /// No thread has more frames than the depth, by the words.
+    fn few_frames(&self, tally: &mut Tally) {
+        let Some(depth) = self.depth.map(i32::from) else {
+            return;
+        };
+        let frames = |thread: usize| self.words[FIRST_THREAD + THREAD_WORDS * thread];
+        let most = (0..MAX_THREADS).map(frames).max().unwrap_or(0);
+        tally.expect(most <= depth, || {
+            format!("a thread has {most} frames at the depth {depth}")
+        });
+        if most == depth && depth > 1 {
+            tally.event(AT_DEPTH);
+        }
+    }
+
     /// Whether the words hold the second implementation's pool.
     fn agrees(&self, tally: &mut Tally) -> bool {
+        self.few_frames(tally);
         let held = Pool::from_words(self.program, &self.words);
         let same = held.as_ref() == Ok(&self.pool);
         tally.expect(same, || {
@@ -163,14 +209,18 @@ impl Run<'_> {
 
     /// A choice of a run makes a rule of its kind, or gets one of 14 to 18, 20
     /// and 21: nothing is ever stuck. Where it gets 17, some thread can step
-    /// or gets 18.
+    /// or gets 18. None gets 18 at a depth of at most 8.
     fn check_answer(&self, tally: &mut Tally, choice: Choice, answer: Result<u8, Refusal>) {
         let fits = match (choice.0, answer.map_err(|refusal| refusal.number)) {
-            (STEP, answer) => matches!(answer, Ok(1..=9) | Err(15..=18)),
+            (STEP, Err(18)) => !self.roomy(),
+            (STEP, answer) => matches!(answer, Ok(1..=9) | Err(15..=17)),
             (PROMOTE, answer) => matches!(answer, Ok(10) | Err(15 | 20 | 21)),
             (_, answer) => answer == Err(14),
         };
         tally.expect(fits, || format!("{choice:?} gets {answer:?}"));
+        if answer == Err(Refusal::plain(18)) {
+            tally.event(self.depth.map_or(CYCLIC, |_| DEEP));
+        }
         if answer == Err(Refusal::plain(17)) {
             let steps = (0..8).any(|thread| matches!(self.step(tally, thread), Ok(1..=9)));
             let full = !steps && self.out_of_frames(tally);
@@ -182,7 +232,8 @@ impl Run<'_> {
     }
 
     /// Main has returned as many values as declared, or a thread can step, or
-    /// some thread is at a call with all frames in use.
+    /// some thread is at a call with all frames in use; the last not at a
+    /// depth of at most 8.
     fn stands(&self, tally: &mut Tally) {
         self.agrees(tally);
         let returned = self.returned(tally);
@@ -234,9 +285,10 @@ impl Run<'_> {
         true
     }
 
-    /// Whether a step of some thread gets 18.
+    /// Whether a step of some thread gets 18, as it may.
     fn out_of_frames(&self, tally: &mut Tally) -> bool {
-        (0..8).any(|thread| self.step(tally, thread) == Err(Refusal::plain(18)))
+        let full = (0..8).any(|thread| self.step(tally, thread) == Err(Refusal::plain(18)));
+        full && !self.roomy()
     }
 
     /// A step on copies of the words and the pool.

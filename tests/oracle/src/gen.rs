@@ -2,6 +2,7 @@
 //! generator, so that another implementation can be put to the same inputs.
 
 pub mod bytes;
+pub mod calls;
 pub mod faults;
 pub mod pools;
 pub mod programs;

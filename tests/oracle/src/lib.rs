@@ -5,8 +5,10 @@
 //! leaves the lent words as they were.
 
 pub mod check;
+pub mod depth;
 pub mod encode;
 pub mod gen;
+pub mod graph;
 pub mod machine;
 pub mod pool;
 pub mod refusal;
@@ -18,6 +20,7 @@ pub mod tally;
 pub mod watch;
 
 pub use check::check;
+pub use depth::depth;
 pub use pool::{Pool, POOL_WORDS};
 pub use refusal::{Place, Refusal};
 pub use rules::Rule;

@@ -10,6 +10,7 @@ use crate::rules::{PROMOTE, STEP};
 pub trait Machine {
     fn read(&self, table: &[u8]) -> Result<(), Refusal>;
     fn check(&self, table: &[u8]) -> Result<(), Refusal>;
+    fn depth(&self, table: &[u8]) -> Result<u8, Refusal>;
     fn start(&self, table: &[u8], pool: &mut [i32]) -> Result<(), Refusal>;
     fn choose(&self, table: &[u8], pool: &mut [i32], kind: u64, thread: u64)
         -> Result<u8, Refusal>;
@@ -46,6 +47,10 @@ impl Machine for Oracle {
 
     fn check(&self, table: &[u8]) -> Result<(), Refusal> {
         crate::check(table)
+    }
+
+    fn depth(&self, table: &[u8]) -> Result<u8, Refusal> {
+        crate::depth(table)
     }
 
     fn start(&self, table: &[u8], pool: &mut [i32]) -> Result<(), Refusal> {
@@ -110,11 +115,12 @@ pub fn differences(machine: &dyn Machine, input: &Scenario) -> Vec<String> {
     found
 }
 
-/// Reading and checking.
+/// Reading, checking and the depth.
 pub fn tables_differ(machine: &dyn Machine, table: &[u8]) -> Vec<String> {
     [
         differs("read", machine.read(table), Oracle.read(table)),
         differs("check", machine.check(table), Oracle.check(table)),
+        differs("depth", machine.depth(table), Oracle.depth(table)),
     ]
     .into_iter()
     .flatten()

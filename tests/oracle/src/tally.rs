@@ -4,13 +4,16 @@ use crate::rules::Rule;
 use std::collections::BTreeMap;
 use std::process::ExitCode;
 
+/// How many refusals there are, counted from 1.
+const REFUSALS: usize = 22;
+
 /// The counts of a whole test, and where it stands.
 pub struct Tally {
     name: &'static str,
     pub round: u64,
     passed: u64,
     failed: u64,
-    refusals: [u64; 22],
+    refusals: [u64; REFUSALS + 1],
     rules: [u64; 11],
     /// What else must occur, by name.
     events: BTreeMap<String, u64>,
@@ -25,7 +28,7 @@ impl Tally {
             round: 0,
             passed: 0,
             failed: 0,
-            refusals: [0; 22],
+            refusals: [0; REFUSALS + 1],
             rules: [0; 11],
             events: events.into_iter().map(|event| (event.into(), 0)).collect(),
         }
@@ -73,7 +76,7 @@ impl Tally {
             let count = self.rules[usize::from(rule.number())];
             counts.push((format!("rule {} {}", rule.number(), rule.name()), count));
         }
-        for number in 1..=21 {
+        for number in 1..=REFUSALS {
             counts.push((format!("refusal {number}"), self.refusals[number]));
         }
         counts.extend(self.events.clone());

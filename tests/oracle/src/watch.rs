@@ -1,6 +1,8 @@
 //! What is worth counting: the shapes of programs, joins, and what pools reach.
 
+use crate::depth;
 use crate::gen::programs::targets_mut;
+use crate::graph::{behind, cyclic, Graph};
 use crate::pool::{Pool, Thread, MAX_CALLS, MAX_FRAMES, MAX_THREADS};
 use crate::rules::{ended, transfer};
 use crate::table::{Function, Program, Transfer, MAX_NESTING};
@@ -33,7 +35,7 @@ pub fn shapes(program: &Program) -> Vec<&'static str> {
         DEPTH,
     );
     note(blocks.iter().any(cyclic), LOOP);
-    note(cyclic(&calls(program)), RECURSION);
+    note(cyclic(&mentions(program)), RECURSION);
     note(
         blocks.iter().any(|graph| {
             let live = behind(graph, 0);
@@ -43,9 +45,6 @@ pub fn shapes(program: &Program) -> Vec<&'static str> {
     );
     found
 }
-
-/// The edges that go out from each of some things.
-type Graph = Vec<Vec<usize>>;
 
 /// The blocks that each block of a function goes to.
 fn jumps(function: &Function) -> Graph {
@@ -59,35 +58,12 @@ fn jumps(function: &Function) -> Graph {
 }
 
 /// The functions that each function calls or spawns.
-fn calls(program: &Program) -> Graph {
-    let called = |function: &Function| {
-        let spawned = function.spawns.iter().map(|spawn| spawn.function);
-        let entered = function.blocks.iter().filter_map(|b| match b.transfer {
-            Transfer::Call { function, .. } => Some(function),
-            _ => None,
-        });
-        spawned.chain(entered).map(usize::from).collect()
-    };
-    program.functions.iter().map(called).collect()
-}
-
-/// What can be reached from a thing by one edge or more.
-fn behind(graph: &Graph, start: usize) -> Vec<bool> {
-    let mut seen = vec![false; graph.len()];
-    let mut ahead = vec![start];
-    while let Some(from) = ahead.pop() {
-        for &to in &graph[from] {
-            if seen.get(to) == Some(&false) {
-                seen[to] = true;
-                ahead.push(to);
-            }
-        }
+fn mentions(program: &Program) -> Graph {
+    let mut graph = depth::calls(program);
+    for (mentioned, function) in graph.iter_mut().zip(&program.functions) {
+        mentioned.extend(function.spawns.iter().map(|s| usize::from(s.function)));
     }
-    seen
-}
-
-fn cyclic(graph: &Graph) -> bool {
-    (0..graph.len()).any(|from| behind(graph, from)[from])
+    graph
 }
 
 /// What pools reach, by name.

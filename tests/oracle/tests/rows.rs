@@ -1,8 +1,10 @@
 //! The examples of the table of numbers and the marked runs.
 
 use oracle::encode::{encode, fix_length};
+use oracle::gen::calls::{dense, line};
+use oracle::rng::Rng;
 use oracle::table::{Atom, Block, Expression, Function, Program, SpawnCall, Statement, Transfer};
-use oracle::{check, choose, read, schedule, start, steppable, values};
+use oracle::{check, choose, depth, read, schedule, start, steppable, values};
 use oracle::{Place, Refusal, Rule, POOL_WORDS};
 
 /// Program A: sets 0 to 2 + 3 and returns it.
@@ -64,15 +66,23 @@ fn b() -> Program {
     }
 }
 
+/// A call without arguments, which comes back to a block.
+fn calls(function: u8, return_block: u8) -> Transfer {
+    Transfer::Call {
+        function,
+        arguments: vec![],
+        return_block,
+    }
+}
+
 /// Main that calls itself.
 fn endless() -> Vec<u8> {
-    let call = Transfer::Call {
-        function: 0,
-        arguments: vec![],
-        return_block: 0,
-    };
     encode(&Program {
-        functions: vec![function(0, vec![], vec![block(&[], &[], None, call)])],
+        functions: vec![function(
+            0,
+            vec![],
+            vec![block(&[], &[], None, calls(0, 0))],
+        )],
     })
 }
 
@@ -209,4 +219,93 @@ fn marked_runs_of_b() {
     let promoted = [(0, 0), (1, 0), (0, 1), (0, 0)];
     assert_eq!(schedule(&table, &mut pool, &promoted), (4, None));
     assert_eq!(values(&table, &pool), Ok(Some(vec![7])));
+}
+
+/// The depth of a program, or the number of its refusal.
+fn deep(program: &Program) -> Result<u8, u8> {
+    depth(&encode(program)).map_err(|refusal| refusal.number)
+}
+
+#[test]
+fn depth_of_lines() {
+    assert_eq!(depth(&A), Ok(1));
+    for functions in 1..=16 {
+        assert_eq!(deep(&line(functions)), Ok(functions as u8));
+    }
+    // Of eight: seven calls and seven returns. Of nine: the eighth call finds no frame.
+    let eight = answers(&encode(&line(8)), &[(0, 0); 15]);
+    assert_eq!(eight[..7], [Ok(5); 7]);
+    assert_eq!(eight[7..14], [Ok(6); 7]);
+    assert_eq!(eight[14], Err(16));
+    let nine = answers(&encode(&line(9)), &[(0, 0); 9]);
+    assert_eq!(nine[..7], [Ok(5); 7]);
+    assert_eq!(nine[7..], [Err(18); 2]);
+}
+
+#[test]
+fn depth_of_other_calls() {
+    for functions in 1..=16 {
+        for blocks in [1, 2, 32] {
+            let program = dense(&mut Rng::new(1), functions, blocks);
+            assert_eq!(deep(&program), Ok(functions as u8));
+        }
+    }
+    // A chain in dead blocks, and one that nothing mentions.
+    let returns = || block(&[], &[], None, gives(&[]));
+    let dead = |to: u8| vec![returns(), block(&[], &[], None, calls(to, 1))];
+    let mut program = Program {
+        functions: vec![
+            function(0, vec![], vec![returns()]),
+            function(0, vec![], dead(3)),
+            function(0, vec![], vec![returns()]),
+            function(0, vec![], dead(2)),
+        ],
+    };
+    assert_eq!(deep(&program), Ok(3));
+    program.functions[0].blocks = dead(1);
+    assert_eq!(deep(&program), Ok(4));
+    program.functions[2].blocks = dead(0);
+    assert_eq!(deep(&program), Err(22));
+}
+
+/// A spawn call adds nothing and closes no cycle; what it starts counts by
+/// itself.
+#[test]
+fn depth_of_spawn_calls() {
+    assert_eq!(deep(&b()), Ok(1));
+    let mut program = b();
+    program.functions[0].spawns[0].function = 0;
+    assert_eq!(deep(&program), Ok(1));
+    // B, whose call begins a line of nine.
+    let mut program = b();
+    let seven = program.functions.pop().unwrap();
+    for next in 2..=9 {
+        let after = block(&[0], &[], None, gives(&[0]));
+        let blocks = vec![block(&[], &[], None, calls(next, 1)), after];
+        program.functions.push(function(1, vec![], blocks));
+    }
+    program.functions.push(seven);
+    assert_eq!(deep(&program), Ok(9));
+    let table = encode(&program);
+    let mut choices = vec![(0, 0), (1, 0)];
+    choices.extend([(0, 1); 8]);
+    let given = answers(&table, &choices);
+    assert_eq!(given[..2], [Ok(7), Ok(10)]);
+    assert_eq!(given[2..9], [Ok(5); 7]);
+    assert_eq!(given[9], Err(18));
+}
+
+/// 22 comes after the check's own refusals.
+#[test]
+fn row_22() {
+    let mut table = endless();
+    assert_eq!(check(&table), Ok(()));
+    assert_eq!(depth(&table), Err(Refusal::plain(22)));
+    table[6] = 1;
+    assert_eq!(depth(&table), Err(Refusal::fault(4, 0, 255)));
+    table[7] = 5;
+    assert_eq!(depth(&table), Err(Refusal::byte(7)));
+    table[4] = 2;
+    assert_eq!(depth(&table), Err(Refusal::plain(2)));
+    assert_eq!(depth(&table[..5]), Err(Refusal::plain(1)));
 }

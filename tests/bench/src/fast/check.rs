@@ -12,12 +12,14 @@ const NO_BLOCK: u8 = 255;
 /// Is the table well formed?
 #[inline(never)]
 pub fn check(table: &[u8]) -> Result<(), Refusal> {
-    let mut places = Places::new();
-    read_into(table, &mut places)?;
-    let judge = Judge {
-        t: table,
-        places: &places,
-    };
+    check_into(table, &mut Places::new())
+}
+
+/// Reads a table into places that are all absent, and judges it.
+#[inline]
+pub fn check_into(table: &[u8], places: &mut Places) -> Result<(), Refusal> {
+    read_into(table, places)?;
+    let judge = Judge { t: table, places };
     judge.program()
 }
 

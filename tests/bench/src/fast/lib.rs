@@ -2,6 +2,7 @@
 //! words in place, with one array of places and no allocation.
 
 mod check;
+mod depth;
 mod judge;
 mod machine;
 mod places;
@@ -9,6 +10,7 @@ mod read;
 mod rules;
 
 pub use check::check;
+pub use depth::depth;
 pub use machine::Fast;
 
 use judge::is_pool;

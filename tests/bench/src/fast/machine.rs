@@ -26,6 +26,10 @@ impl Machine for Fast {
         given(super::check(table))
     }
 
+    fn depth(&self, table: &[u8]) -> Result<u8, oracle::Refusal> {
+        given(super::depth(table))
+    }
+
     fn start(&self, table: &[u8], pool: &mut [i32]) -> Result<(), oracle::Refusal> {
         given(super::start(table, pool))
     }

@@ -123,6 +123,14 @@ impl<'a> Code<'a> {
         self.gather(frame, at + 1)
     }
 
+    /// The offset of the transfer of the block that begins at an offset.
+    #[inline(always)]
+    pub fn transfer(self, head: usize) -> usize {
+        let nesting = head + usize::from(self.t[head]) + 3;
+        let code = nesting + usize::from(self.t[nesting]) + 1;
+        (0..self.t[code]).fold(code + 1, |at, _| self.expression_end(at + 1))
+    }
+
     /// The offset of what a frame does next, and whether that is a statement.
     #[inline(always)]
     fn next(self, frame: &Frame) -> (usize, bool) {

@@ -1,15 +1,17 @@
 //! Puts the generators' inputs to the implementation and asserts what must
 //! hold of it: `selfcheck SEED COUNT`.
 
+use oracle::depth::{self, depth_of, CYCLE};
 use oracle::encode::encode;
+use oracle::gen::calls::{self, Calling};
 use oracle::gen::faults::{self, Kind, Planted};
 use oracle::gen::schedules::{guided_choice, Choice, Policy};
 use oracle::gen::{bytes, programs, scenario, Scenario};
 use oracle::machine::{differences, Oracle};
-use oracle::pool::Pool;
+use oracle::pool::{Pool, MAX_FRAMES};
 use oracle::rng::Rng;
 use oracle::rules::{self, ended, Rule, PROMOTE, STEP};
-use oracle::table::{Program, TABLE_MAX};
+use oracle::table::{Program, MAX_FUNCTIONS, TABLE_MAX};
 use oracle::tally::Tally;
 use oracle::watch::{self, join, join_event};
 use oracle::{Refusal, POOL_WORDS};
@@ -33,11 +35,12 @@ fn main() -> ExitCode {
     tally.finish()
 }
 
-/// One round: an accepted table and its run, planted faults, spoiled bytes and
-/// scenarios, all from the seed and the round's number.
+/// One round: an accepted table and its run, planted faults, spoiled bytes,
+/// scenarios, and a table rich in calls, all from the seed and the round's
+/// number.
 fn check_round(tally: &mut Tally, rng: &mut Rng) {
     let program = programs::accepted(rng);
-    check_accepted(tally, &program);
+    check_accepted(tally, &program, None);
     check_run(tally, rng, &program);
     for _ in 0..4 {
         check_one_fault(tally, rng, &program);
@@ -52,12 +55,29 @@ fn check_round(tally: &mut Tally, rng: &mut Rng) {
             tally.expect(found.is_empty(), || format!("{found:?}"));
         }
     }
+    check_calls(tally, rng);
+}
+
+/// A table rich in calls: its depth, a run, and faults that come before 22.
+fn check_calls(tally: &mut Tally, rng: &mut Rng) {
+    let Calling {
+        kind,
+        program,
+        known,
+    } = calls::calling(rng);
+    tally.event(&kind.event());
+    check_accepted(tally, &program, known);
+    check_run(tally, rng, &program);
+    check_one_fault(tally, rng, &program);
+    check_bytes(tally, rng, &program);
 }
 
 /// What must occur besides every rule and refusal.
 fn events() -> Vec<String> {
     let mut events: Vec<String> = (0..=4).map(join_event).collect();
     events.extend(Kind::ALL.map(|kind| format!("fault {kind:?}")));
+    events.extend(calls::Kind::ALL.map(calls::Kind::event));
+    events.extend((1..=MAX_FUNCTIONS).map(depth_event));
     events.extend(watch::EVENTS.map(String::from));
     events.extend(
         [
@@ -65,14 +85,28 @@ fn events() -> Vec<String> {
             "table of 16384 bytes",
             "schedule of 50 made",
             "two faults in a transfer",
+            BY_PATHS,
+            BY_ROUNDS,
+            AT_DEPTH,
+            OUT_OF_FRAMES,
         ]
         .map(String::from),
     );
     events
 }
 
-/// The table of a well-formed program reads back and is accepted.
-fn check_accepted(tally: &mut Tally, program: &Program) {
+const BY_PATHS: &str = "depth by all paths";
+const BY_ROUNDS: &str = "depth by rounds alone";
+const AT_DEPTH: &str = "thread of as many frames as the depth, above 1";
+const OUT_OF_FRAMES: &str = "18 at a depth above 8";
+
+fn depth_event(depth: u8) -> String {
+    format!("depth {depth}")
+}
+
+/// The table of a well-formed program reads back and is accepted; its depth is
+/// the one that is known.
+fn check_accepted(tally: &mut Tally, program: &Program, known: Option<Result<u8, u8>>) {
     let table = encode(program);
     if table.len() == TABLE_MAX {
         tally.event("table of 16384 bytes");
@@ -83,18 +117,78 @@ fn check_accepted(tally: &mut Tally, program: &Program) {
     });
     let checked = oracle::check(&table);
     tally.expect(checked.is_ok(), || format!("not accepted: {checked:?}"));
+    check_depth(tally, &table);
+    let depth = depth_of(program);
+    let found = depth.ok_or(CYCLE);
+    tally.expect(known.is_none() || known == Some(found), || {
+        format!("{known:?} is the depth, {found:?} given")
+    });
+    if let Some(depth) = depth {
+        tally.event(&depth_event(depth));
+        let paths = depth::by_paths(&depth::calls(program));
+        tally.event(paths.map_or(BY_ROUNDS, |_| BY_PATHS));
+    }
+}
+
+/// The depth of any bytes: the check's refusal, or 1 to as many frames as there
+/// are functions, or 22.
+fn check_depth(tally: &mut Tally, table: &[u8]) {
+    let depth = oracle::depth(table);
+    let fits = match (oracle::check(table), depth) {
+        (Ok(()), Ok(depth)) => (1..=table[5]).contains(&depth),
+        (Ok(()), Err(refusal)) => refusal == Refusal::plain(CYCLE),
+        (checked, depth) => checked.err() == depth.err(),
+    };
+    tally.expect(fits, || format!("the depth is {depth:?}"));
+    if let Err(refusal) = depth {
+        tally.refusal(refusal.number);
+    }
+}
+
+/// The most frames that a thread has.
+fn most_frames(pool: &Pool) -> usize {
+    let threads = pool.threads();
+    threads.iter().map(|t| t.frames.len()).max().unwrap_or(0)
+}
+
+/// Whether a depth leaves room: no thread ever runs out of frames.
+fn roomy(depth: Option<u8>) -> bool {
+    depth.is_some_and(|depth| usize::from(depth) <= MAX_FRAMES)
+}
+
+/// What a depth says of an answer and of the pool left: at most 8, and no
+/// choice gets 18; no thread has more frames than it.
+fn check_room(tally: &mut Tally, depth: Option<u8>, answer: &Result<Rule, u8>, pool: &Pool) {
+    let full = *answer == Err(18);
+    tally.expect(!(full && roomy(depth)), || {
+        format!("18 at the depth {depth:?}")
+    });
+    let Some(depth) = depth.map(usize::from) else {
+        return;
+    };
+    let most = most_frames(pool);
+    tally.expect(most <= depth, || {
+        format!("a thread has {most} frames at the depth {depth}")
+    });
+    if full {
+        tally.event(OUT_OF_FRAMES);
+    }
+    if most == depth && depth > 1 {
+        tally.event(AT_DEPTH);
+    }
 }
 
 /// A random run of an accepted table, made and refused choices: the words of
-/// demand 3 hold before and after every choice.
+/// demand 3 hold before and after every choice, and what the depth says.
 fn check_run(tally: &mut Tally, rng: &mut Rng, program: &Program) {
     let table = encode(program);
+    let depth = depth_of(program);
     let mut words = vec![-1; POOL_WORDS];
     let started = oracle::start(&table, &mut words);
     tally.expect(started.is_ok(), || format!("no start: {started:?}"));
     let mut pool = Pool::start();
     let policy = Policy::random(rng);
-    check_progress(tally, program, &pool);
+    check_progress(tally, program, depth, &pool);
     let mut left = rng.one_of([20, 100, 400]);
     while left > 0 {
         left -= 1;
@@ -105,7 +199,8 @@ fn check_run(tally: &mut Tally, rng: &mut Rng, program: &Program) {
         tally.answer(answer.map(Rule::number));
         check_answer(tally, program, &before, &pool, choice, &answer);
         tally.expect(answer != Err(19), || format!("{choice:?} is stuck"));
-        check_progress(tally, program, &pool);
+        check_room(tally, depth, &answer, &pool);
+        check_progress(tally, program, depth, &pool);
         if table.len() < 600 || rng.chance(5) {
             let by_words = oracle::choose(&table, &mut words, choice.0, choice.1);
             let same = by_words.map_err(|refusal| refusal.number) == answer;
@@ -128,15 +223,16 @@ fn check_run(tally: &mut Tally, rng: &mut Rng, program: &Program) {
 }
 
 /// Some thread can step, or is at a call with all frames in use, or main has
-/// returned as many values as declared.
-fn check_progress(tally: &mut Tally, program: &Program, pool: &Pool) {
+/// returned as many values as declared; at a depth of at most 8 it is the first
+/// or the last.
+fn check_progress(tally: &mut Tally, program: &Program, depth: Option<u8>, pool: &Pool) {
     let values = ended(program, &pool.root);
     let declared = usize::from(program.functions[0].returns);
     let returned = values.as_ref().is_some_and(|v| v.len() == declared);
     let steps = !rules::steppable(program, pool).is_empty();
     let full = || {
-        (0..pool.size())
-            .any(|t| rules::choose(program, &mut pool.clone(), STEP, t as u64) == Err(18))
+        let step = |t| rules::choose(program, &mut pool.clone(), STEP, t as u64);
+        !roomy(depth) && (0..pool.size()).any(|t| step(t) == Err(18))
     };
     tally.expect(returned || steps || full(), || {
         format!("no progress: {pool:?}")
@@ -269,6 +365,7 @@ fn expect_fault(tally: &mut Tally, program: &Program, planted: &[Planted]) {
     }
     let found = planted.iter().any(|fault| Some(fault.refusal) == refusal);
     tally.expect(found, || format!("{planted:?} planted, {refusal:?} given"));
+    check_depth(tally, &table);
 }
 
 /// Spoiled bytes get the refusal known beforehand.
@@ -285,10 +382,12 @@ fn check_bytes(tally: &mut Tally, rng: &mut Rng, program: &Program) {
     tally.expect(refusal.is_none() || checked == refusal, || {
         format!("read gives {refusal:?}, check {checked:?}")
     });
+    check_depth(tally, &table);
 }
 
 /// All calls on one scenario agree with each other and keep their promises.
 fn check_scenario(tally: &mut Tally, input: &Scenario) {
+    check_depth(tally, &input.table);
     check_start(tally, input);
     match decode(input) {
         Err(refusal) => check_undecoded(tally, input, refusal),

@@ -501,7 +501,7 @@ pub fn arguments(rng: &mut Rng, count: usize, bound: &Temporaries) -> Option<Vec
 }
 
 /// An expression over what is bound.
-fn expression(rng: &mut Rng, bound: &Temporaries) -> Expression {
+pub fn expression(rng: &mut Rng, bound: &Temporaries) -> Expression {
     let m = atom(rng, bound);
     let n = atom(rng, bound);
     match rng.below(4) {

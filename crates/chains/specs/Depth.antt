@@ -1,0 +1,65 @@
+-- The depth of a table, worked out: the longest chain from a function by those from its callees, with the number of functions left
+-- as the falling measure.
+use Prim.Native.Nat.{ℕ, zero, suc, _+_, max}
+use mathlib.Core.Option.{Option, none, some, Option·map}
+use mathlib.Core.List.{List, [], _∷_, _++_}
+use lib.ListN.{length, getElem?}
+use Rattle.model.specs.Numbers as No
+use Rattle.model.specs.Answers.{Refusal, Answer, with}
+use Rattle.model.specs.Syntax.{Transfer, Block, Function, Program}
+use Rattle.model.specs.Check.{judge}
+use Rattle.model.specs.Calls.{read}
+
+-- the function that a transfer calls, if it calls one
+unfoldable pub calledBy : Transfer → List ℕ
+calledBy (Transfer.goto b x̄) = []
+calledBy (Transfer.if e b c) = []
+calledBy (Transfer.call g x̄ b) = g ∷ []
+calledBy (Transfer.return x̄) = []
+calledBy (Transfer.spork b π) = []
+calledBy (Transfer.spoin b c) = []
+
+-- the callees of blocks, and of function f
+unfoldable pub calledIn : List Block → List ℕ
+calledIn [] = []
+calledIn (B ∷ B̄) = calledBy (B .transfer) ++ calledIn B̄
+
+unfoldable pub calleesOf : Option Function → List ℕ
+calleesOf none = []
+calleesOf (some F) = calledIn (F .blocks)
+
+abbrev pub callees : Program → ℕ → List ℕ
+callees P f = calleesOf (getElem? P f)
+
+-- the greater of two numbers; none where one of them is none
+unfoldable pub greater : Option ℕ → Option ℕ → Option ℕ
+greater none o = none
+greater (some a) none = none
+greater (some a) (some b) = some (max a b)
+
+-- the greatest of what a function says of the numbers of a list, or 0
+unfoldable pub greatest : (ℕ → Option ℕ) → List ℕ → Option ℕ
+greatest h [] = some 0
+greatest h (x ∷ x̄) = greater (h x) (greatest h x̄)
+
+-- the frames of the longest chain from f: its own, and those of its deepest callee. None where the functions left do not suffice
+unfoldable pub frames : Program → ℕ → ℕ → Option ℕ
+frames P zero f = none
+frames P (suc left) f = Option·map (λ d. d + 1) (greatest (λ g. frames P left g) (callees P f))
+
+-- the numbers below n, the greatest first
+unfoldable pub numbers : ℕ → List ℕ
+numbers zero = []
+numbers (suc n) = n ∷ numbers n
+
+-- over every function as the first
+unfoldable pub deepest : Program → Option ℕ
+deepest P = greatest (frames P (length P)) (numbers (length P))
+
+-- depth: 1 to 11, then 22, or the frames
+unfoldable pub deep : Option ℕ → Answer ℕ
+deep none = Answer.refused (Refusal.plain No.cycle)
+deep (some d) = Answer.given d
+
+unfoldable pub depth : List ℕ → Answer ℕ
+depth s = with (read s) λ P. with (judge P) λ _. deep (deepest P)

@@ -1,0 +1,4 @@
+pub mod Transfers
+pub mod Memory
+pub mod Loops
+pub mod Tables
