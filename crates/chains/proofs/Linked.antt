@@ -22,7 +22,7 @@ use Rattle.model.specs.Rules.{Act, by, acts, act, Result, Promotion, choice}
 use Rattle.model.proofs.Facts.{none-some, at-below, ltb-false}
 use Rattle.model.proofs.Kept.{OnSome, on-bind, on-is, on-when}
 use Rattle.chains.specs.Chains.{Calls, Chain, Needs}
-use Rattle.chains.specs.Roomy.{oldest, Deeper}
+use Rattle.chains.specs.Roomy.{oldestFunction, Deeper}
 use Rattle.chains.proofs.Steps.{chain-append}
 
 -- the frames K beneath one of the function g, newest first: each function is called by the next
@@ -34,15 +34,15 @@ abbrev pub Linked : Program → Thread → Type 0
 Linked P t = Links P (t .newest .function) (t .older)
 
 -- linked frames are a chain from the oldest to the newest
-links-chain : (P : Program) (g : ℕ) (K : List Frame) → Links P g K → Chain P (oldest g K) g (length K)
+links-chain : (P : Program) (g : ℕ) (K : List Frame) → Links P g K → Chain P (oldestFunction g K) g (length K)
 unfolding Chain
 links-chain P g [] h = refl
 links-chain P g (k ∷ K) h =
-    let f = oldest (k .function) K in
+    let f = oldestFunction (k .function) K in
     subst (Chain P f g) (add-one (length K))
     (chain-append P f (k .function) g (length K) 1 (links-chain P (k .function) K (h .1)) (g, h .0, refl))
 
-pub links-needs : (P : Program) (g : ℕ) (K : List Frame) → Links P g K → Needs P (oldest g K) (suc (length K))
+pub links-needs : (P : Program) (g : ℕ) (K : List Frame) → Links P g K → Needs P (oldestFunction g K) (suc (length K))
 links-needs P g K h = record { last = g; calls = length K; chain = links-chain P g K h; frames = omega arith }
 
 -- one call more than a thread has frames for
@@ -51,8 +51,8 @@ unfolding Chain
 links-deeper P g [] l h = absurd (omega arith)
 links-deeper P g (k ∷ K) l h =
     record {
-      first = oldest (k .function) K;
-      there = at-below P (oldest (k .function) K) (links-chain P g (k ∷ K) h .1 .there);
+      first = oldestFunction (k .function) K;
+      there = at-below P (oldestFunction (k .function) K) (links-chain P g (k ∷ K) h .1 .there);
       frames = suc (length (k ∷ K));
       needs = links-needs P g (k ∷ K) h;
       more = l;

@@ -14,11 +14,12 @@ use Rattle.model.specs.Syntax.{Statement, Transfer, Signature, Program}
 use Rattle.model.specs.WellFormed.{Env, env, signatureOf, WF-transfer, WF-code, WF-block, WF-fun, WF-prog}
 use Rattle.model.specs.Check.{judge}
 use Rattle.model.specs.Calls.{read, check}
+use Rattle.model.specs.Output as Output
 use Rattle.model.proofs.Facts.{map-some, refused-given, given-injective, each-at, at-below}
 use Rattle.model.proofs.Accepted.{check-wf}
 use Rattle.model.proofs.Guarantees.{read-limits}
 use Rattle.chains.specs.Chains.{Calls, Cyclic, Needs, Deepest}
-use Rattle.chains.specs.Depth.{frames, numbers, deepest, deep, depth}
+use Rattle.chains.specs.Depth.{framesFrom, numbers, deepest, deep, depth}
 use Rattle.chains.specs.Means.{Accepted, Means}
 use Rattle.chains.proofs.Steps.{In}
 use Rattle.chains.proofs.Worked.{Greatest, Says, greatest-says, needs-one, Is, frames-is}
@@ -60,10 +61,10 @@ IsDeepest P none = Cyclic P
 IsDeepest P (some d) = Deepest P d × (d ≤ length P)
 
 module _ (P : Program) (some-function : 0 < length P) (there : (f g : ℕ) → Calls P f g → g < length P) where
-  first-is : (f : ℕ) (o : Option ℕ) → frames P (length P) f ≡ o → Is P (length P) f o
+  first-is : (f : ℕ) (o : Option ℕ) → framesFrom P (length P) f ≡ o → Is P (length P) f o
   first-is f o e = subst (Is P (length P) f) e (frames-is P (length P) f)
 
-  is-given : (d : ℕ) → Greatest (frames P (length P)) (numbers (length P)) d → Deepest P d × (d ≤ length P)
+  is-given : (d : ℕ) → Greatest (framesFrom P (length P)) (numbers (length P)) d → Deepest P d × (d ≤ length P)
   is-given d G = go (G .one)
     where
       most : (f e : ℕ) → f < length P → Needs P f e → e ≤ d
@@ -74,22 +75,22 @@ module _ (P : Program) (some-function : 0 < length P) (there : (f g : ℕ) → C
       one : Needs P 0 1
       one = needs-one P 0
 
-      go : (d ≡ 0) ⊎ ((f : ℕ) × In f (numbers (length P)) × (frames P (length P) f ≡ some d)) → Deepest P d × (d ≤ length P)
+      go : (d ≡ 0) ⊎ ((f : ℕ) × In f (numbers (length P)) × (framesFrom P (length P) f ≡ some d)) → Deepest P d × (d ≤ length P)
       go (inl z) = absurd (omega (arith, most 0 1 some-function one))
       go (inr k) =
           let i = first-is (k .0) (some d) (k .2) in
           (record { first = k .0; there = in-numbers (k .0) (length P) (k .1); needs = i .0 .needs; most = most }, i .1)
 
-  is-none : (f : ℕ) → In f (numbers (length P)) → frames P (length P) f ≡ none → Cyclic P
+  is-none : (f : ℕ) → In f (numbers (length P)) → framesFrom P (length P) f ≡ none → Cyclic P
   is-none f i e = let c = first-is f none e in long-cyclic P there f (c .0) (in-numbers f (length P) i) (c .1)
 
-  by-says : (o : Option ℕ) → Says (frames P (length P)) (numbers (length P)) o → IsDeepest P o
+  by-says : (o : Option ℕ) → Says (framesFrom P (length P)) (numbers (length P)) o → IsDeepest P o
   by-says none s = is-none (s .0) (s .1) (s .2)
   by-says (some d) G = is-given d G
 
   deepest-is : (o : Option ℕ) → deepest P ≡ o → IsDeepest P o
   unfolding deepest
-  deepest-is o e = subst (IsDeepest P) e (by-says (deepest P) (greatest-says (frames P (length P)) (numbers (length P))))
+  deepest-is o e = subst (IsDeepest P) e (by-says (deepest P) (greatest-says (framesFrom P (length P)) (numbers (length P))))
 
   -- there is one greatest number, and none where there is a cycle
   deepest-one : (d e : ℕ) → Deepest P d → Deepest P e → d ≡ e
@@ -133,18 +134,18 @@ deep-either (some d) = inl (d, refl)
 
 -- the depth of a table that the check accepts, refuses, or that has one
 pub depth-accepted : (s : List ℕ) (P : Program) → check s ≡ Answer.given tt → read s ≡ Answer.given P → depth s ≡ deep (deepest P)
-unfolding depth check with
+unfolding depth Output.accepted check with
 depth-accepted s P h r = let j : judge P ≡ Answer.given tt = rw r at h in rw (r, j) refl
 
 module _ (s : List ℕ) where
   judged-refused : (q : Refusal) (a : Answer Program) → with a judge ≡ Answer.refused q →
-      with a (λ P. with (judge P) λ _. deep (deepest P)) ≡ Answer.refused q
+      with (with a λ P. with (judge P) λ _. Answer.given P) (λ P. deep (deepest P)) ≡ Answer.refused q
   unfolding with
   judged-refused q (Answer.given P) h = rw h refl
   judged-refused q (Answer.refused r) h = let e : r ≡ q = cc in rw e refl
 
   depth-refused : (q : Refusal) → check s ≡ Answer.refused q → depth s ≡ Answer.refused q
-  unfolding depth check
+  unfolding depth Output.accepted check
   depth-refused q h = judged-refused q (read s) h
 
   depth-only : (d : ℕ) → depth s ≡ Answer.given d → check s ≡ Answer.given tt

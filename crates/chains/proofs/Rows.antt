@@ -6,6 +6,7 @@ use lib.ListN.{length}
 use Rattle.model.specs.Numbers as No
 use Rattle.model.specs.Answers.{Refusal, Answer}
 use Rattle.model.specs.Lists.{concat}
+use Rattle.model.specs.Output as Output
 use Rattle.model.proofs.Runs.{all}
 use Rattle.chains.specs.Depth as Depth
 use Rattle.chains.specs.Depth.{depth}
@@ -102,5 +103,6 @@ rows =
 -- every row is right
 pub right : map (λ r. depth (r .bytes)) rows ≡ map (λ r. r .answer) rows
 unfolding all
-    Depth.calledBy Depth.calledIn Depth.calleesOf Depth.greater Depth.greatest Depth.frames Depth.numbers Depth.deepest Depth.deep depth
+    Output.accepted Depth.calledBy Depth.calledIn Depth.calleesOf Depth.greater Depth.greatest Depth.framesFrom Depth.numbers Depth.deepest
+    Depth.deep depth
 right = refl

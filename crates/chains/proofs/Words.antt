@@ -24,7 +24,7 @@ use Rattle.model.proofs.Numbers.{choose-leaves}
 use Rattle.safety.proofs.Words.{refused-number}
 use Rattle.safety.proofs.Theorem.{starts}
 use Rattle.chains.specs.Chains.{Deepest}
-use Rattle.chains.specs.Roomy.{NotFull, Few, oldest, Chained, Deeper, Full}
+use Rattle.chains.specs.Roomy.{NotFull, Few, oldestFunction, Chained, Deeper, Full}
 use Rattle.chains.proofs.Linked.{Linked, links-needs, Keeps, choice-keeps}
 
 pub record Held (s : List ℕ) (ws : List ℤ) : Type 0 where
@@ -45,7 +45,7 @@ held-start s P ws r n =
     })
 
 -- the function of a valid thread's oldest frame is there
-oldest-there : (P : Program) (k : Frame) (K : List Frame) → IsFrame P k → Each (IsOlder P) K → oldest (k .function) K < length P
+oldest-there : (P : Program) (k : Frame) (K : List Frame) → IsFrame P k → Each (IsOlder P) K → oldestFunction (k .function) K < length P
 unfolding functionOf
 oldest-there P k [] f h = at-below P (k .function) (f .stands .found)
 oldest-there P k (l ∷ K) f h = oldest-there P l K (h .0 .frame) (h .1)
@@ -99,7 +99,7 @@ module _ {s : List ℕ} {ws : List ℤ} (g : Held s ws) where
     few-frames : (t : Thread) → IsThread (g .lends .table) t → Linked (g .lends .table) t → length (frames t) ≤ d
     few-frames t v h =
         let P = g .lends .table in
-        deep P held-reads .most (oldest (t .newest .function) (t .older)) (length (frames t))
+        deep P held-reads .most (oldestFunction (t .newest .function) (t .older)) (length (frames t))
         (oldest-there P (t .newest) (t .older) (v .newest) (v .older)) (links-needs P (t .newest .function) (t .older) h)
 
     pub held-few : Few s d ws

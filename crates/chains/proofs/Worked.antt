@@ -11,7 +11,7 @@ use lib.Dec.{leb}
 use Rattle.model.specs.Syntax.{Program}
 use Rattle.model.proofs.Facts.{le-leb, lt-leb}
 use Rattle.chains.specs.Chains.{Calls, Chain, Needs, Longest}
-use Rattle.chains.specs.Depth.{callees, greater, greatest, frames}
+use Rattle.chains.specs.Depth.{callees, greater, greatest, framesFrom}
 use Rattle.chains.proofs.Steps.{In, callees-called, called-callees}
 
 -- the greatest over a list: at least what each says, and what one says, or 0
@@ -75,18 +75,18 @@ abbrev pub Is : Program → ℕ → ℕ → Option ℕ → Type 0
 Is P left f none = (g : ℕ) × Chain P f g left
 Is P left f (some d) = Longest P f d × (d ≤ left)
 
-module _ (P : Program) (left f : ℕ) (ih : (g : ℕ) → Is P left g (frames P left g)) where
-  callee-is : (g : ℕ) (o : Option ℕ) → frames P left g ≡ o → Is P left g o
+module _ (P : Program) (left f : ℕ) (ih : (g : ℕ) → Is P left g (framesFrom P left g)) where
+  callee-is : (g : ℕ) (o : Option ℕ) → framesFrom P left g ≡ o → Is P left g o
   callee-is g o e = subst (Is P left g) e (ih g)
 
-  step-none : (g : ℕ) → In g (callees P f) → frames P left g ≡ none → Is P (suc left) f none
+  step-none : (g : ℕ) → In g (callees P f) → framesFrom P left g ≡ none → Is P (suc left) f none
   unfolding Chain
   step-none g i e = let c = callee-is g none e in (c .0, (g, callees-called P f g i, c .1))
 
   abbrev One : ℕ → Type 0
-  One d = (d ≡ 0) ⊎ ((g : ℕ) × In g (callees P f) × (frames P left g ≡ some d))
+  One d = (d ≡ 0) ⊎ ((g : ℕ) × In g (callees P f) × (framesFrom P left g ≡ some d))
 
-  step-some : (d : ℕ) → Greatest (λ g. frames P left g) (callees P f) d → Is P (suc left) f (some (d + 1))
+  step-some : (d : ℕ) → Greatest (λ g. framesFrom P left g) (callees P f) d → Is P (suc left) f (some (d + 1))
   step-some d G = (record { needs = needs (G .one); most = most }, few (G .one))
     where
       needs : One d → Needs P f (d + 1)
@@ -107,29 +107,29 @@ module _ (P : Program) (left f : ℕ) (ih : (g : ℕ) → Is P left g (frames P 
               let l = callee-is (r .callee) (some (m .0)) (m .1) .0 .most (n .calls) (r .needs) in
               omega (arith, n .frames, m .2)
 
-  step-is : (o : Option ℕ) → Says (λ g. frames P left g) (callees P f) o → Is P (suc left) f (Option·map (λ d. d + 1) o)
+  step-is : (o : Option ℕ) → Says (λ g. framesFrom P left g) (callees P f) o → Is P (suc left) f (Option·map (λ d. d + 1) o)
   step-is none s = step-none (s .0) (s .1) (s .2)
   step-is (some d) G = step-some d G
 
-pub frames-is : (P : Program) (left f : ℕ) → Is P left f (frames P left f)
-unfolding frames Chain
+pub frames-is : (P : Program) (left f : ℕ) → Is P left f (framesFrom P left f)
+unfolding framesFrom Chain
 frames-is P zero f = (f, refl)
 frames-is P (suc left) f =
-    step-is P left f (λ g. frames-is P left g) (greatest (λ g. frames P left g) (callees P f))
-    (greatest-says (λ g. frames P left g) (callees P f))
+    step-is P left f (λ g. frames-is P left g) (greatest (λ g. framesFrom P left g) (callees P f))
+    (greatest-says (λ g. framesFrom P left g) (callees P f))
 
 -- the longest chain from a function is one
 pub longest-one : (P : Program) (f d e : ℕ) → Longest P f d → Longest P f e → d ≡ e
 longest-one P f d e k l = omega (arith, l .most d (k .needs), k .most e (l .needs))
 
 -- a depth that was found with some functions left is the depth with any number of them, or they do not suffice
-pub frames-known : (P : Program) (k f d : ℕ) → frames P k f ≡ some d → (n : ℕ) → frames P n f ≡ cond (leb d n) (some d) none
-frames-known P k f d e n = go (frames P n f) refl
+pub frames-known : (P : Program) (k f d : ℕ) → framesFrom P k f ≡ some d → (n : ℕ) → framesFrom P n f ≡ cond (leb d n) (some d) none
+frames-known P k f d e n = go (framesFrom P n f) refl
   where
     long : Longest P f d
     long = subst (Is P k f) e (frames-is P k f) .0
 
-    go : (o : Option ℕ) → frames P n f ≡ o → frames P n f ≡ cond (leb d n) (some d) none
+    go : (o : Option ℕ) → framesFrom P n f ≡ o → framesFrom P n f ≡ cond (leb d n) (some d) none
     go none z =
         let c = subst (Is P n f) z (frames-is P n f) in
         let l = long .most (n + 1) (record { last = c .0; calls = n; chain = c .1; frames = refl }) in

@@ -7,8 +7,7 @@ use lib.ListN.{length, getElem?}
 use Rattle.model.specs.Numbers as No
 use Rattle.model.specs.Answers.{Refusal, Answer, with}
 use Rattle.model.specs.Syntax.{Transfer, Block, Function, Program}
-use Rattle.model.specs.Check.{judge}
-use Rattle.model.specs.Calls.{read}
+use Rattle.model.specs.Output.{accepted}
 
 -- the function that a transfer calls, if it calls one
 unfoldable pub calledBy : Transfer → List ℕ
@@ -43,9 +42,9 @@ greatest h [] = some 0
 greatest h (x ∷ x̄) = greater (h x) (greatest h x̄)
 
 -- the frames of the longest chain from f: its own, and those of its deepest callee. None where the functions left do not suffice
-unfoldable pub frames : Program → ℕ → ℕ → Option ℕ
-frames P zero f = none
-frames P (suc left) f = Option·map (λ d. d + 1) (greatest (λ g. frames P left g) (callees P f))
+unfoldable pub framesFrom : Program → ℕ → ℕ → Option ℕ
+framesFrom P zero f = none
+framesFrom P (suc left) f = Option·map (λ d. d + 1) (greatest (λ g. framesFrom P left g) (callees P f))
 
 -- the numbers below n, the greatest first
 unfoldable pub numbers : ℕ → List ℕ
@@ -54,7 +53,7 @@ numbers (suc n) = n ∷ numbers n
 
 -- over every function as the first
 unfoldable pub deepest : Program → Option ℕ
-deepest P = greatest (frames P (length P)) (numbers (length P))
+deepest P = greatest (framesFrom P (length P)) (numbers (length P))
 
 -- depth: 1 to 11, then 22, or the frames
 unfoldable pub deep : Option ℕ → Answer ℕ
@@ -62,4 +61,4 @@ deep none = Answer.refused (Refusal.plain No.cycle)
 deep (some d) = Answer.given d
 
 unfoldable pub depth : List ℕ → Answer ℕ
-depth s = with (read s) λ P. with (judge P) λ _. deep (deepest P)
+depth s = with (accepted s) λ P. deep (deepest P)

@@ -46,16 +46,16 @@ abbrev pub Depth : Type 0
 Depth = (s : List ℕ) (d : ℕ) (ws : List ℤ) → depth s ≡ Answer.given d → length ws ≡ poolWords → NeverFull s d ws
 
 -- the function of the oldest frame, where g is the newest one's and K are the others, newest first
-abbrev pub oldest : ℕ → List Frame → ℕ
-oldest g [] = g
-oldest g (k ∷ K) = oldest (k .function) K
+abbrev pub oldestFunction : ℕ → List Frame → ℕ
+oldestFunction g [] = g
+oldestFunction g (k ∷ K) = oldestFunction (k .function) K
 
 -- the words are a pool of the table in which each thread has as many frames as some chain from the function of its oldest frame
 -- needs: so never more than the longest chain from that function
 pub record Chained (s : List ℕ) (ws : List ℤ) : Type 0 where
   pub lends : Lent
   pub pool : lent s ws ≡ Answer.given lends
-  pub each : Each (λ t. Needs (lends .table) (oldest (t .newest .function) (t .older)) (length (frames t))) (lends .pool)
+  pub each : Each (λ t. Needs (lends .table) (oldestFunction (t .newest .function) (t .older)) (length (frames t))) (lends .pool)
 
 -- some chain needs more frames than a thread can have
 pub record Deeper (P : Program) : Type 0 where

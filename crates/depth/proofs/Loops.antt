@@ -14,7 +14,7 @@ use Rattle.model.specs.Limits.{InFunction}
 use Rattle.model.proofs.Facts.{none-some, some-injective, each-at, past-at, drop-some, drop-none}
 use Rattle.places.specs.Layout as Layout
 use Rattle.places.specs.Places.{Places}
-use Rattle.chains.specs.Depth.{calledIn, calleesOf, callees, greater, greatest, frames, numbers, deepest}
+use Rattle.chains.specs.Depth.{calledIn, calleesOf, callees, greater, greatest, framesFrom, numbers, deepest}
 use Rattle.depth.specs.declared.Called.{Called}
 use Rattle.depth.specs.declared.Called.the-variants as called
 use Rattle.depth.specs.declared.Chain.{Chain}
@@ -77,8 +77,8 @@ unfolding greater
 own-greater n none = refl
 own-greater n (some a) = let e : max n a + 1 ≡ max (n + 1) (a + 1) = omega arith in ap some e
 
-frames-own : (P : Program) (left f : ℕ) → (left ≡ 0 → ⊥) → frames P left f ≡ own (greatest (frames P (left - 1)) (callees P f))
-unfolding frames
+frames-own : (P : Program) (left f : ℕ) → (left ≡ 0 → ⊥) → framesFrom P left f ≡ own (greatest (framesFrom P (left - 1)) (callees P f))
+unfolding framesFrom
 frames-own P zero f h = absurd (h refl)
 frames-own P (suc left) f h = let e : suc left - 1 ≡ left = omega arith in rw e
 
@@ -99,26 +99,26 @@ module _ (left n : ℕ) (r : Chain) (l : AtMost (left - 1) r) (z : r ≡ Frames 
 
 -- with no functions left
 pub spent : (s places known : List ℕ) (left f : ℕ) → left ≡ 0 → Works s places known left f Endless known
-unfolding frames
+unfolding framesFrom
 spent s places known left f e P p k = (rw e, k)
 
 -- the blocks of a function: those from number b on decide, with the greatest so far; and the depths known are right
 abbrev pub Left : List ℕ → List ℕ → List ℕ → ℕ → ℕ → List ℕ → ℕ → ℕ → Type 0
 Left s places known₀ left f known most b =
     (P : Program) → Places s P places → Knows P known₀ →
-    (frames P left f ≡ greater (some most) (own (greatest (frames P (left - 1)) (calledFrom (getElem? P f) b)))) × Knows P known
+    (framesFrom P left f ≡ greater (some most) (own (greatest (framesFrom P (left - 1)) (calledFrom (getElem? P f) b)))) × Knows P known
 
 pub left-first : (s places known : List ℕ) (left f : ℕ) → (left ≡ 0 → ⊥) → Left s places known left f known 1 0
 left-first s places known left f h P p k = (frames-own P left f h ∙ rw (own-least, ← from-first (getElem? P f)), k)
 
 module _ (s places known₀ : List ℕ) (left f : ℕ) (known : List ℕ) (most b : ℕ) (i : Left s places known₀ left f known most b) where
   left-over : (known′ : List ℕ) (r : Chain) (P : Program) → Places s P places → Knows P known₀ → calledFrom (getElem? P f) b ≡ []
-      → 0 < most → chainOf r ≡ some most → known′ ≡ set known f most → (chainOf r ≡ frames P left f) × Knows P known′
+      → 0 < most → chainOf r ≡ some most → known′ ≡ set known f most → (chainOf r ≡ framesFrom P left f) × Knows P known′
   unfolding greatest greater
   left-over known′ r P p k₀ e g c w =
       let (j, k) = i P p k₀ in
       let z : max most 1 ≡ most = omega arith in
-      let h : frames P left f ≡ some most = j ∙ rw (e, z) in
+      let h : framesFrom P left f ≡ some most = j ∙ rw (e, z) in
       (c ∙ sym h, rw w (knows-more P known left f most k h))
 
   pub left-end : (known′ : List ℕ) (r : Chain) → Layout.blocks ≤ b → 0 < most → chainOf r ≡ some most → known′ ≡ set known f most
@@ -152,7 +152,7 @@ module _ (s places known₀ : List ℕ) (left f : ℕ) (known : List ℕ) (most 
       left-endless z P p k₀ =
           let (j, k) = i P p k₀ in
           let (w, k′) = works P p k in
-          let h : frames P (left - 1) g ≡ none = sym w ∙ ap chainOf z in
+          let h : framesFrom P (left - 1) g ≡ none = sym w ∙ ap chainOf z in
           (sym (j ∙ rw (callee P p, h)), k′)
 
       pub left-call : (n m : ℕ) → r ≡ Frames n → m ≡ max most (n + 1) → Left s places known₀ left f known′ m (b + 1)
@@ -160,14 +160,14 @@ module _ (s places known₀ : List ℕ) (left f : ℕ) (known : List ℕ) (most 
       left-call n m z d P p k₀ =
           let (j, k) = i P p k₀ in
           let (w, k′) = works P p k in
-          let h : frames P (left - 1) g ≡ some n = sym w ∙ ap chainOf z in
+          let h : framesFrom P (left - 1) g ≡ some n = sym w ∙ ap chainOf z in
           (j ∙ rw (callee P p, h, own-greater n, greater-more most (n + 1), ← d), k′)
 
 -- the functions: those below f decide, with the greatest so far; and the depths known are right
 abbrev pub AllLeft : List ℕ → List ℕ → ℕ → List ℕ → ℕ → ℕ → Type 0
 AllLeft s places n known most f =
     (P : Program) → Places s P places → length P ≡ n →
-    (deepest P ≡ greater (some most) (greatest (frames P n) (numbers f))) × Knows P known
+    (deepest P ≡ greater (some most) (greatest (framesFrom P n) (numbers f))) × Knows P known
 
 pub all-first : (s places : List ℕ) (n k : ℕ) → AllLeft s places n (replicate k 0) 0 n
 unfolding deepest
@@ -191,7 +191,7 @@ module _ (s places : List ℕ) (n : ℕ) (known : List ℕ) (most f : ℕ) (i : 
     unfolding greatest greater
     all-endless z P p e =
         let (j, known-right) = i P p e in
-        let w : frames P n (f - 1) ≡ none = sym (works P p known-right .0) ∙ ap chainOf z in
+        let w : framesFrom P n (f - 1) ≡ none = sym (works P p known-right .0) ∙ ap chainOf z in
         sym (j ∙ rw (numbers-next f h, w))
 
     pub all-on : (d m : ℕ) → r ≡ Frames d → m ≡ max most d → AllLeft s places n known′ m (f - 1)
@@ -199,5 +199,5 @@ module _ (s places : List ℕ) (n : ℕ) (known : List ℕ) (most f : ℕ) (i : 
     all-on d m z q P p e =
         let (j, known-right) = i P p e in
         let (v, right) = works P p known-right in
-        let w : frames P n (f - 1) ≡ some d = sym v ∙ ap chainOf z in
+        let w : framesFrom P n (f - 1) ≡ some d = sym v ∙ ap chainOf z in
         (j ∙ rw (numbers-next f h, w, greater-more most d, ← q), right)

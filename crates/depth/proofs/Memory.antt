@@ -10,7 +10,7 @@ use lib.Dec.{leb}
 use lib.ListN.{getD, set, replicate}
 use Rattle.model.specs.Syntax.{Program}
 use Rattle.model.proofs.Facts.{same-at}
-use Rattle.chains.specs.Depth.{frames}
+use Rattle.chains.specs.Depth.{framesFrom}
 use Rattle.chains.proofs.Worked.{frames-known}
 use Rattle.depth.specs.declared.Chain.{Chain}
 use Rattle.depth.specs.Works.{chainOf, Knows, Works}
@@ -38,10 +38,10 @@ either (x ∷ l) (suc i) (suc j) v = go (either l i j v)
     go (inl e) = inl e
     go (inr (e, w)) = inr (ap suc e, w)
 
-pub knows-more : (P : Program) (known : List ℕ) (left f d : ℕ) → Knows P known → frames P left f ≡ some d → Knows P (set known f d)
+pub knows-more : (P : Program) (known : List ℕ) (left f d : ℕ) → Knows P known → framesFrom P left f ≡ some d → Knows P (set known f d)
 knows-more P known left f d k e g m w = go (either known f g d)
   where
     go : (getD (set known f d) g 0 ≡ getD known g 0) ⊎ ((g ≡ f) × (getD (set known f d) g 0 ≡ d))
-        → (n : ℕ) × (frames P n g ≡ some (suc m))
+        → (n : ℕ) × (framesFrom P n g ≡ some (suc m))
     go (inl z) = k g m (sym z ∙ w)
     go (inr (z, v)) = (left, rw z (e ∙ ap some (sym v ∙ w)))

@@ -40,6 +40,6 @@ module _ (s before places : List ℕ) (r : Code.Answer) (c : CheckedAs s before 
     unfolding deep
     table-frames z = ap (λ (x : Chain). deep (chainOf x)) (sym z) ∙ accepted
 
-    pub table-cycle : q ≡ Endless → neededOf (needed.Refused (Plain No.cycle)) ≡ Model.depth s
+    pub table-cycle : {m : ℕ} → m ≡ No.cycle → q ≡ Endless → neededOf (needed.Refused (Plain m)) ≡ Model.depth s
     unfolding deep
-    table-cycle z = ap (λ (x : Chain). deep (chainOf x)) (sym z) ∙ accepted
+    table-cycle is z = rw is (ap (λ (x : Chain). deep (chainOf x)) (sym z) ∙ accepted)

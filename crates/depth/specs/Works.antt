@@ -9,7 +9,7 @@ use Rattle.model.specs.Syntax.{Block, Program}
 use Rattle.model.specs.Pool.{blockIn}
 use Rattle.answers.specs.Answers.{refusalOf}
 use Rattle.places.specs.Places.{Places}
-use Rattle.chains.specs.Depth.{calledBy, frames, deepest}
+use Rattle.chains.specs.Depth.{calledBy, framesFrom, deepest}
 use Rattle.depth.specs.declared.Called.{Called}
 use Rattle.depth.specs.declared.Called.the-variants as called
 use Rattle.depth.specs.declared.Chain.{Chain}
@@ -42,12 +42,12 @@ AtMost n chain.Endless = Unit {0}
 
 -- each depth that is known, not 0, is the definition's, for some number of functions left
 abbrev pub Knows : Program → List ℕ → Type 0
-Knows P known = (f d : ℕ) → getD known f 0 ≡ suc d → (left : ℕ) × (frames P left f ≡ some (suc d))
+Knows P known = (f d : ℕ) → getD known f 0 ≡ suc d → (left : ℕ) × (framesFrom P left f ≡ some (suc d))
 
 -- the frames of the longest chain from f, with the depths known before and afterwards
 abbrev pub Works : List ℕ → List ℕ → List ℕ → ℕ → ℕ → Chain → List ℕ → Type 0
 Works s places known left f r known′ =
-    (P : Program) → Places s P places → Knows P known → (chainOf r ≡ frames P left f) × Knows P known′
+    (P : Program) → Places s P places → Knows P known → (chainOf r ≡ framesFrom P left f) × Knows P known′
 
 -- over every function as the first, of n
 abbrev pub WorksAll : List ℕ → List ℕ → ℕ → Chain → Type 0

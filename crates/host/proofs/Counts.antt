@@ -12,7 +12,7 @@ use Rattle.model.specs.Pool.{Pool, mostThreads, frameCountAt, threadWords, thre
 use Rattle.model.specs.Valid.{ThreadFits}
 use Rattle.model.proofs.Facts.{same-at}
 use Rattle.model.proofs.Words.{thread-count, thread-length}
-use Rattle.host.specs.Roomy.{framesIn}
+use Rattle.host.specs.Roomy.{frameCount}
 
 module _ (d : ℕ) where
   threads-at : (n : ℕ) (p : Pool) (i : ℕ) → Each ThreadFits p → Each (λ t. length (frames t) ≤ d) p →
@@ -29,7 +29,7 @@ module _ (d : ℕ) where
       let l : threadWords * suc i + frameCountAt ≡ length (wordsOfThread t) + at = omega (arith, thread-length (f .0)) in
       rw (append-assoc, l, getD-append-add (wordsOfThread t) z at (pos 0)) (threads-at n p i (f .1) (h .1))
 
-  pub counts-few : (p : Pool) (i : ℕ) → Each ThreadFits p → Each (λ t. length (frames t) ≤ d) p → framesIn (wordsOf p) i ≤ d
+  pub counts-few : (p : Pool) (i : ℕ) → Each ThreadFits p → Each (λ t. length (frames t) ≤ d) p → frameCount (wordsOf p) i ≤ d
   unfolding wordsOf wordAt pad
   counts-few p i f h =
       let e : threadStart i + frameCountAt ≡ suc (threadWords * i + frameCountAt) = omega arith in

@@ -25,14 +25,14 @@ use Rattle.host.specs.Macros.{value, number, poolWords, noThread}
 use Rattle.host.specs.Contracts.{Choose, Which}
 use Rattle.host.specs.Laws.{refusalIn}
 use Rattle.host.specs.Sessions.{Call, Made, Session, Returned, CanStep}
-use Rattle.host.specs.Roomy.{Unfilled, NotFull, framesIn, Roomy, Depth}
+use Rattle.host.specs.Roomy.{Unfilled, NotFull, frameCount, Roomy, Depth}
 use Rattle.host.proofs.Macros.{refusal-number, given-read, refused-read, read-done}
 use Rattle.host.proofs.Laws.{depth-law, start-law, choose-law, schedule-law}
 use Rattle.host.proofs.Counts.{counts-few}
 use Rattle.host.proofs.Sessions.{Reached, reached-lent, returned, can-step, none-steps, waits, call-safe, session-safe, begun}
 
 -- the frame counts of words in which no thread has more than d frames
-few-counts : (s : List ℕ) (d : ℕ) (w : List ℤ) → Few s d w → (i : ℕ) → framesIn w i ≤ d
+few-counts : (s : List ℕ) (d : ℕ) (w : List ℤ) → Few s d w → (i : ℕ) → frameCount w i ≤ d
 few-counts s d w f i =
     let l = lent-given s w (f .lends) (f .pool) in
     let fits = pool-fits (pool-facts (f .lends .table) (f .lends .pool) (l .valid)) in

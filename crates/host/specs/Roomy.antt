@@ -26,14 +26,14 @@ NotFull (Call.which r) = Unit {0}
 NotFull (Call.values vs r vs′) = Unit {0}
 
 -- how many frames thread i has, by its word; 0 where there is no such thread
-abbrev pub framesIn : List ℤ → ℕ → ℕ
-framesIn ws i = wordAt ws (threadStart i + frameCountAt)
+abbrev pub frameCount : List ℤ → ℕ → ℕ
+frameCount ws i = wordAt ws (threadStart i + frameCountAt)
 
 -- what is claimed of a session that left the words ws, by the frames d that mezdaulk_depth gave: no thread has more; and where they
 -- are at most 8, no call was refused 18, and main has returned or a thread can step. Of a call put next: where mezdaulk_which tells no
 -- thread, main has returned; and where a step is refused 17, some thread can step
 pub record Roomy (s : List ℕ) (d : ℕ) (cs : List Call) (ws : List ℤ) : Type 0 where
-  pub few : (i : ℕ) → i < mostThreads → framesIn ws i ≤ d
+  pub few : (i : ℕ) → i < mostThreads → frameCount ws i ≤ d
   pub answered : d ≤ mostFrames → Each NotFull cs
   pub stands : d ≤ mostFrames → Returned s ws ⊎ CanStep s ws
   pub nobody : d ≤ mostFrames → (r : ℕ) → Which s ws r → value r ≡ noThread → Returned s ws
