@@ -10,7 +10,7 @@
  * the same time; two calls on one pool may not, if either of them writes it. Lent regions that a call writes must not overlap
  * others of the same call.
  *
- * A pointer with a count beside it (table, pool, choices) must be valid for that many items and aligned for their type. With a
+ * A pointer with a count beside it (table, pool, choices, out) must be valid for that many items and aligned for their type. With a
  * count of 0 it may be anything, NULL too. values and made have no count and must be valid in every call.
  */
 #ifndef MEZDAULK_H
@@ -38,7 +38,7 @@ extern "C" {
 /* The value of a given answer. */
 #define MEZDAULK_VALUE(answer) ((uint32_t)((uint64_t)(answer) & 0xFFFFFFFFu))
 
-/* The number of a refusal, 1 to 22; the place of a 3; the function and the block of 4 to 11. */
+/* The number of a refusal, 1 to 23; the place of a 3; the function and the block of 4 to 11. */
 #define MEZDAULK_NUMBER(answer) ((unsigned)((uint64_t)(answer) & 0xFFu))
 #define MEZDAULK_PLACE(answer) ((unsigned)(((uint64_t)(answer) >> 8) & 0xFFFFFFu))
 #define MEZDAULK_BLOCK(answer) ((unsigned)(((uint64_t)(answer) >> 8) & 0xFFu))
@@ -80,8 +80,10 @@ extern "C" {
 #define MEZDAULK_REFUSED_STUCK 19u    /* the thread is stuck: no rule applies */
 #define MEZDAULK_REFUSED_PROMOTED 20u /* the thread has nothing to promote */
 #define MEZDAULK_REFUSED_THREADS 21u  /* there is something to promote, but eight threads are there already */
-/* and of the depth. */
+/* of the depth, */
 #define MEZDAULK_REFUSED_CYCLE 22u    /* some function reaches itself by calls */
+/* and of the tidy table. */
+#define MEZDAULK_REFUSED_ROOM 23u     /* the output is shorter than the tidy table */
 
 /* The rules that a choice makes: 1 to 9 by a step, 10 by a promotion. */
 #define MEZDAULK_RULE_STMT 1u     /* a statement */
@@ -113,6 +115,13 @@ uint64_t mezdaulk_check(const uint8_t *table, size_t bytes);
  * pool started from the table ever has more frames than that, no choice gets 18, and main has returned or some thread can step.
  * Refused: 1 to 11 as by the check; 22 where some function reaches itself by calls. */
 uint64_t mezdaulk_depth(const uint8_t *table, size_t bytes);
+
+/* Writes a table that the check accepts afresh, tidy, at the start of out, which has room for so many bytes. Main and each entry keep
+ * their numbers; the other functions, blocks and spawn calls get theirs by first mention, what is never mentioned goes, and
+ * temporaries stay. Given: the length of the tidy table, which is never more than bytes; out behind it is as it was. The tidy table is
+ * accepted, and its own tidy table; put to pools started from either table, every list of choices gets the same answers. Refused: 1 to
+ * 11 as by the check; 23 where room is less than that length; out is then as it was. table and out must not overlap. */
+uint64_t mezdaulk_tidy(const uint8_t *table, size_t bytes, uint8_t *out, size_t room);
 
 /* Makes 1,673 words, whatever they hold, a fresh pool of a table that reads. Given: 0. Refused: 1 to 3, 12; the words are then
  * as they were. */

@@ -1,5 +1,5 @@
-/* Checks table B of document 01 and runs it: the spork's call is promoted and joined, and main returns 7. Each answer is printed and held
- * to what it must be; the status is 1 if one is another. */
+/* Checks table B of document 01, writes it afresh, and runs it: the spork's call is promoted and joined, and main returns 7. Each answer is
+ * printed and held to what it must be; the status is 1 if one is another. */
 #include <inttypes.h>
 #include <stdio.h>
 #include <string.h>
@@ -46,6 +46,7 @@ static void four(const int32_t found[4], int32_t first) {
 int main(void) {
     static int32_t pool[MEZDAULK_POOL_WORDS];
     uint8_t damaged[sizeof table];
+    uint8_t tidy[sizeof table];
     const size_t bytes = sizeof table;
     const size_t words = MEZDAULK_POOL_WORDS;
     const struct mezdaulk_choice choices[] = {{MEZDAULK_STEP, 1}, {MEZDAULK_STEP, 0}, {MEZDAULK_STEP, 0}};
@@ -61,6 +62,9 @@ int main(void) {
     given("read", mezdaulk_read(table, bytes), 0);
     given("check", mezdaulk_check(table, bytes), 0);
     given("depth", mezdaulk_depth(table, bytes), 1);
+    refused("tidy with too little room", mezdaulk_tidy(table, bytes, tidy, bytes - 1), MEZDAULK_REFUSED_ROOM);
+    given("tidy", mezdaulk_tidy(table, bytes, tidy, sizeof tidy), (uint32_t)bytes);
+    hold("the tidy table, which B is already,", memcmp(tidy, table, bytes), 0);
 
     refused("start with no words", mezdaulk_start(table, bytes, NULL, 0), MEZDAULK_REFUSED_WORDS);
     given("start", mezdaulk_start(table, bytes, pool, words), 0);

@@ -1,5 +1,6 @@
 #!/usr/bin/env python3
-"""Checks table B of document 01 and runs it, through the shared object: the spork's call is promoted and joined, and main returns 7.
+"""Checks table B of document 01, writes it afresh, and runs it, through the shared object: the spork's call is promoted and joined, and
+main returns 7.
 
 example.py [LIBRARY]; without it MEZDAULK_LIBRARY is taken, or target/make/libmezdaulk.so of this repository, which make builds. Each
 answer is printed and held to what it must be; the status is 1 if one is another.
@@ -14,7 +15,7 @@ POOL_WORDS = 1673
 STEP, PROMOTE = 0, 1
 NO_THREAD = 8
 OPEN = 255
-REFUSED_FORM, REFUSED_WORDS, REFUSED_ENDED, REFUSED_WAITS = 3, 12, 16, 17
+REFUSED_FORM, REFUSED_WORDS, REFUSED_ENDED, REFUSED_WAITS, REFUSED_ROOM = 3, 12, 16, 17, 23
 RULE_SPORK, RULE_PROMOTE = 7, 10
 
 
@@ -50,6 +51,7 @@ CALLS = {
     "mezdaulk_read": TABLE,
     "mezdaulk_check": TABLE,
     "mezdaulk_depth": TABLE,
+    "mezdaulk_tidy": TABLE + TABLE,
     "mezdaulk_start": TABLE + POOL,
     "mezdaulk_choose": TABLE + POOL + [ctypes.c_uint32, ctypes.c_uint32],
     "mezdaulk_which": TABLE + POOL,
@@ -116,6 +118,22 @@ def judge(lib, held):
     held.given("depth", lib.mezdaulk_depth(*lent(TABLE_B)), 1)
 
 
+def tidy(lib, held):
+    """B is tidy; the same job with a dead block between its blocks has B as its tidy table."""
+    untidy = bytearray(TABLE_B)
+    untidy[8] += 1
+    untidy[27:29] = 3, 4
+    untidy[29:29] = bytes.fromhex("00 0000 00 00 00 02 00")
+    untidy[3] = len(untidy)
+    for table in (TABLE_B, untidy):
+        out = (ctypes.c_uint8 * len(table))()
+        room = len(TABLE_B)
+        held.refused("tidy with too little room", lib.mezdaulk_tidy(*lent(table), out, room - 1), REFUSED_ROOM)
+        held.hold("the output", bytes(out), bytes(len(table)))
+        held.given("tidy", lib.mezdaulk_tidy(*lent(table), out, len(out)), room)
+        held.hold("the tidy table", bytes(out[:room]), TABLE_B)
+
+
 def run(lib, held):
     """A pool is started and run to its result."""
     table = lent(TABLE_B)
@@ -147,6 +165,7 @@ def main():
     held = Held()
     lib = library(path)
     judge(lib, held)
+    tidy(lib, held)
     run(lib, held)
     return 1 if held.wrong else 0
 

@@ -64,10 +64,17 @@ static int32_t *pool;
 static size_t words;
 static const struct mezdaulk_choice *choices;
 static size_t count;
+static uint8_t *out;
+static size_t room;
 
-/* What a call on the table, and on the table and the pool, answers where it is refused for them; or what is due otherwise. */
+/* What a call on the table, on the table and the output, and on the table and the pool answers where it is refused for them; or what is
+ * due otherwise. */
 static uint64_t of_table(uint64_t due) {
     return bytes == 0 ? REFUSED(MEZDAULK_REFUSED_SIZE) : due;
+}
+
+static uint64_t of_output(uint64_t due) {
+    return of_table(room == 0 ? REFUSED(MEZDAULK_REFUSED_ROOM) : due);
 }
 
 static uint64_t of_pool(uint64_t due) {
@@ -82,6 +89,7 @@ static void every_call(void) {
     hold("read", mezdaulk_read(table, bytes), of_table(GIVEN(0)));
     hold("check", mezdaulk_check(table, bytes), of_table(GIVEN(0)));
     hold("depth", mezdaulk_depth(table, bytes), of_table(GIVEN(1)));
+    hold("tidy", mezdaulk_tidy(table, bytes, out, room), of_output(GIVEN(sizeof table_b)));
     hold("start", mezdaulk_start(table, bytes, pool, words), of_pool(GIVEN(0)));
     hold("which", mezdaulk_which(table, bytes, pool, words), of_pool(GIVEN(0)));
     hold("values", mezdaulk_values(table, bytes, pool, words, values), of_pool(GIVEN(MEZDAULK_OPEN)));
@@ -96,15 +104,18 @@ static void every_call(void) {
 static void nothing_at(uintptr_t address) {
     static int32_t some_pool[MEZDAULK_POOL_WORDS];
     static const struct mezdaulk_choice some_choices[] = {{MEZDAULK_STEP, 0}, {MEZDAULK_PROMOTE, 0}};
+    static uint8_t some_output[sizeof table_b];
     int which;
-    for (which = 0; which < 8; which++) {
-        const int has_table = which & 1, has_pool = which & 2, has_choices = which & 4;
+    for (which = 0; which < 16; which++) {
+        const int has_table = which & 1, has_pool = which & 2, has_choices = which & 4, has_output = which & 8;
         table = has_table ? table_b : (const uint8_t *)address;
         bytes = has_table ? sizeof table_b : 0;
         pool = has_pool ? some_pool : (int32_t *)address;
         words = has_pool ? MEZDAULK_POOL_WORDS : 0;
         choices = has_choices ? some_choices : (const struct mezdaulk_choice *)address;
         count = has_choices ? 2 : 0;
+        out = has_output ? some_output : (uint8_t *)address;
+        room = has_output ? sizeof some_output : 0;
         every_call();
     }
 }
@@ -131,6 +142,34 @@ static void run_fenced(enum side side) {
     hold("one word less", mezdaulk_which(t, sizeof table_b, p, MEZDAULK_POOL_WORDS - 1), REFUSED(MEZDAULK_REFUSED_WORDS));
 }
 
+/* A table tidied into outputs at fences: no byte, one less than the tidy table has, as many, and more. What is not written stays. */
+static void tidy_fenced(enum side side, const uint8_t *given, size_t length, const uint8_t *tidy, size_t due) {
+    const size_t rooms[] = {0, 1, due - 1, due, due + 1, due + 100};
+    const struct fenced fence = fenced(due + 100);
+    const uint8_t *t = place(fenced(length), side, given, length);
+    size_t k;
+    for (k = 0; k < sizeof rooms / sizeof rooms[0]; k++) {
+        uint8_t *o = place(fence, side, NULL, rooms[k]);
+        size_t written = 0, left;
+        memset(fence.first, 0xA5, fence.room);
+        if (rooms[k] < due) {
+            hold("tidy with too little room", mezdaulk_tidy(t, length, o, rooms[k]), REFUSED(MEZDAULK_REFUSED_ROOM));
+        } else {
+            hold("tidy", mezdaulk_tidy(t, length, o, rooms[k]), GIVEN(due));
+            hold("the tidy table", (uint64_t)(memcmp(o, tidy, due) != 0), 0);
+            written = due;
+        }
+        for (left = 0; left < fence.room; left++) {
+            const unsigned char *at = fence.first + left;
+            if (*at != 0xA5 && (at < o || o + written <= at)) {
+                break;
+            }
+        }
+        hold("the output past it", left, fence.room);
+        hold("the table", (uint64_t)(memcmp(t, given, length) != 0), 0);
+    }
+}
+
 /* Every beginning of B, with its own length in the length field: a byte is missing, behind the fence. */
 static void beginnings(enum side side) {
     const struct fenced fence = fenced(sizeof table_b);
@@ -145,20 +184,22 @@ static void beginnings(enum side side) {
         hold("read of a beginning", mezdaulk_read(t, length), due);
         hold("check of a beginning", mezdaulk_check(t, length), due);
         hold("depth of a beginning", mezdaulk_depth(t, length), due);
+        hold("tidy of a beginning", mezdaulk_tidy(t, length, NULL, 0), due);
     }
 }
 
-/* The depth of every line of functions, open and closed, at a fence. */
+/* The depth of every line of functions, open and closed, at a fence; and each is its own tidy table. */
 static void lines(enum side side) {
     const struct fenced fence = fenced(LINE_ROOM);
-    uint8_t room[LINE_ROOM];
+    uint8_t cells[LINE_ROOM];
     unsigned functions;
     for (functions = 1; functions <= LINE_FUNCTIONS; functions++) {
-        const size_t open = line(room, functions, 0);
+        const size_t open = line(cells, functions, 0);
         size_t closed;
-        hold("depth of a line", mezdaulk_depth(place(fence, side, room, open), open), GIVEN(functions));
-        closed = line(room, functions, 1);
-        hold("depth of a closed line", mezdaulk_depth(place(fence, side, room, closed), closed), REFUSED(MEZDAULK_REFUSED_CYCLE));
+        hold("depth of a line", mezdaulk_depth(place(fence, side, cells, open), open), GIVEN(functions));
+        closed = line(cells, functions, 1);
+        hold("depth of a closed line", mezdaulk_depth(place(fence, side, cells, closed), closed), REFUSED(MEZDAULK_REFUSED_CYCLE));
+        tidy_fenced(side, cells, closed, cells, closed);
     }
 }
 
@@ -168,6 +209,8 @@ int main(void) {
     nothing_at(1);
     for (side = 0; side < SIDES; side++) {
         run_fenced((enum side)side);
+        tidy_fenced((enum side)side, table_b, sizeof table_b, table_b, sizeof table_b);
+        tidy_fenced((enum side)side, untidy_b, sizeof untidy_b, table_b, sizeof table_b);
         beginnings((enum side)side);
         lines((enum side)side);
     }

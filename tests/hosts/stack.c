@@ -1,7 +1,7 @@
 /* How many bytes of stack each call takes: the call runs on a thread whose stack was filled with one byte, and afterwards the lowest
  * byte that has changed is looked for. Every call is made at each state of a run of table B, the depth on lines of sixteen functions,
- * open and closed, and the most that it took is printed. MOST is what docs/USING.md says; a call that takes more fails, and so does one
- * that seems to take nothing. */
+ * open and closed, the tidy table on such a line and on B with dead code, and the most that it took is printed. MOST is what
+ * docs/USING.md says; a call that takes more fails, and so does one that seems to take nothing. */
 #define _POSIX_C_SOURCE 200809L
 #include <pthread.h>
 #include <stdio.h>
@@ -36,6 +36,13 @@ static uint64_t call_depth(void) {
     static uint8_t table[LINE_ROOM];
     const size_t bytes = line(table, LINE_FUNCTIONS, at & 1);
     return mezdaulk_depth(table, bytes);
+}
+
+static uint64_t call_tidy(void) {
+    static uint8_t table[LINE_ROOM];
+    static uint8_t out[LINE_ROOM];
+    const size_t bytes = line(table, LINE_FUNCTIONS, 1);
+    return at & 1 ? mezdaulk_tidy(untidy_b, sizeof untidy_b, out, sizeof out) : mezdaulk_tidy(table, bytes, out, bytes);
 }
 
 static uint64_t call_start(void) {
@@ -110,9 +117,9 @@ static size_t taken(struct job *job) {
 
 int main(void) {
     struct job jobs[] = {
-        {"read", call_read, NULL, 0},   {"check", call_check, NULL, 0},   {"depth", call_depth, NULL, 0},
-        {"start", call_start, NULL, 0}, {"choose", call_choose, NULL, 0}, {"which", call_which, NULL, 0},
-        {"values", call_values, NULL, 0}, {"schedule", call_schedule, NULL, 0},
+        {"read", call_read, NULL, 0},     {"check", call_check, NULL, 0}, {"depth", call_depth, NULL, 0},
+        {"tidy", call_tidy, NULL, 0},     {"start", call_start, NULL, 0}, {"choose", call_choose, NULL, 0},
+        {"which", call_which, NULL, 0},   {"values", call_values, NULL, 0}, {"schedule", call_schedule, NULL, 0},
     };
     int passed = 0, failed = 0;
     size_t k;

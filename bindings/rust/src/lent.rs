@@ -55,6 +55,28 @@ pub fn depth(table: &[u8]) -> Result<u8, Refusal> {
     answered(unsafe { raw::mezdaulk_depth(table.as_ptr(), table.len()) }).map(|frames| frames as u8)
 }
 
+/// Writes the tidy table of a table that [`check`] accepts at the start of `out`, and gives its length, which is never more than the
+/// table's; `out` behind it stays. [`tidy`](crate::tidy()) gives it in bytes of its own. Refused, and nothing is written: 1 to 11 as by
+/// [`check`]; 23 where `out` is shorter than the tidy table.
+///
+/// ```
+/// use mezdaulk::{lent, Reason};
+///
+/// // One block that returns.
+/// let table = [0, 0, 0, 17, 1, 1, 0, 0, 1, 0, 0, 0, 0, 0, 0, 3, 0];
+/// let mut out = [9; 18];
+/// assert_eq!(lent::tidy(&table, &mut out[..16]).unwrap_err().reason(), Reason::Room);
+/// assert_eq!(lent::tidy(&table, &mut out), Ok(17));
+/// assert_eq!((&out[..17], out[17]), (&table[..], 9));
+/// ```
+pub fn tidy(table: &[u8], out: &mut [u8]) -> Result<usize, Refusal> {
+    // Safety: both slices are valid for their lengths, and the output, which overlaps no other, is lent for writing alone.
+    answered(unsafe {
+        raw::mezdaulk_tidy(table.as_ptr(), table.len(), out.as_mut_ptr(), out.len())
+    })
+    .map(|length| length as usize)
+}
+
 /// Makes the words a fresh pool of the table. Refused: 1 to 3, 12.
 pub fn start(table: &[u8], pool: &mut [i32]) -> Result<(), Refusal> {
     // Safety: both slices are valid for their lengths, and the pool is lent for writing alone.

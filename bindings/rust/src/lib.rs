@@ -1,7 +1,7 @@
 //! Spork IR tables checked, and the pool that runs them: a safe wrapper of the library.
 //!
-//! [`check`] says yes or no to a table, and [`depth`] how many frames its calls can need; [`Pool::start`] makes a pool of it, and
-//! [`Pool::choose`] or [`Pool::schedule`] runs it.
+//! [`check`] says yes or no to a table, [`depth`] how many frames its calls can need, and [`tidy`](tidy()) writes it afresh for the
+//! archive; [`Pool::start`] makes a pool of it, and [`Pool::choose`] or [`Pool::schedule`] runs it.
 //! A call that is refused has changed nothing, except that a schedule keeps what the choices before the refused one made.
 //!
 //! ```
@@ -34,9 +34,11 @@ mod numbers;
 mod pool;
 pub mod raw;
 mod refusal;
+mod tidy;
 
 pub use lent::{check, depth, read};
 pub use numbers::{Kind, Reason, Rule, Unknown};
 pub use pool::{Pool, Values};
 pub use raw::Choice;
 pub use refusal::{Place, Refusal};
+pub use tidy::tidy;

@@ -92,6 +92,7 @@ numbered! {
         Promoted = 20, "the thread has nothing to promote";
         Threads = 21, "there is something to promote, but eight threads are there already";
         Cycle = 22, "some function reaches itself by calls";
+        Room = 23, "the output is shorter than the tidy table";
     }
 }
 

@@ -46,6 +46,9 @@ extern "C" {
     /// How many frames can a chain of calls need?
     pub fn mezdaulk_depth(table: *const u8, bytes: usize) -> u64;
 
+    /// Writes the tidy table.
+    pub fn mezdaulk_tidy(table: *const u8, bytes: usize, out: *mut u8, room: usize) -> u64;
+
     /// Makes the words a fresh pool.
     pub fn mezdaulk_start(table: *const u8, bytes: usize, pool: *mut i32, words: usize) -> u64;
 

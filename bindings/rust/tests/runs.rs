@@ -1,7 +1,7 @@
 //! Runs of tables A and B of document 01, stored pools, and the numbers by name.
 
 use mezdaulk::{
-    check, depth, lent, read, Choice, Kind, Place, Pool, Reason, Refusal, Rule, Unknown,
+    check, depth, lent, read, tidy, Choice, Kind, Place, Pool, Reason, Refusal, Rule, Unknown,
 };
 
 /// One statement, and the result 5.
@@ -151,6 +151,77 @@ fn depth_of_calls() {
     assert_eq!(reason(depth(&[])), Reason::Size);
 }
 
+/// B with a dead block between its blocks, and a dead function between its
+/// functions.
+fn untidy_b() -> Vec<u8> {
+    let mut table = B[..53].to_vec();
+    table[5] = 3;
+    table[8] = 5;
+    table[10] = 2;
+    table[27..29].copy_from_slice(&[3, 4]);
+    table.splice(29..29, [0, 0, 0, 0, 0, 0, 2, 0]);
+    table.extend([0, 0, 1, 0, 0, 0, 0, 0, 0, 3, 0]);
+    table.extend(&B[53..]);
+    table[3] = table.len() as u8;
+    table
+}
+
+#[test]
+fn tidy_tables() {
+    assert_eq!((tidy(&A), tidy(&B)), (Ok(A.to_vec()), Ok(B.to_vec())));
+    let untidy = untidy_b();
+    assert_eq!(check(&untidy), Ok(()));
+    assert_eq!(tidy(&untidy), Ok(B.to_vec()));
+    // The output behind the tidy table stays, and all of it where it is refused.
+    let mut out = [9; 80];
+    for room in [0, B.len() - 1] {
+        assert_eq!(reason(lent::tidy(&untidy, &mut out[..room])), Reason::Room);
+        assert_eq!(out, [9; 80]);
+    }
+    for room in [B.len(), B.len() + 1, out.len()] {
+        out.fill(9);
+        assert_eq!(lent::tidy(&untidy, &mut out[..room]), Ok(B.len()));
+        assert_eq!(out[..B.len()], B);
+        assert_eq!(out[B.len()..], [9; 80 - B.len()]);
+    }
+    let room = lent::tidy(&untidy, &mut []).unwrap_err();
+    assert_eq!((room.number(), room.place()), (23, None));
+    assert_eq!(
+        room.to_string(),
+        "the output is shorter than the tidy table (refusal 23)"
+    );
+    // The check's own refusals come before it.
+    let mut bad = untidy;
+    bad[6] = 1;
+    assert_eq!(lent::tidy(&bad, &mut []), Err(check(&bad).unwrap_err()));
+    assert_eq!(tidy(&bad), Err(check(&bad).unwrap_err()));
+    assert_eq!(reason(tidy(&[0; 20_000])), Reason::Size);
+}
+
+/// The same choices get the same answers from pools of both tables.
+#[test]
+fn tidy_runs() {
+    let untidy = untidy_b();
+    let mut pools = [&untidy[..], &B].map(|table| (table, Pool::start(table).unwrap()));
+    let choices = [
+        Choice::step(0),
+        Choice::promote(0),
+        Choice::step(0),
+        Choice::promote(0),
+        Choice::step(1),
+        Choice::step(0),
+        Choice::step(0),
+    ];
+    for choice in choices {
+        let answers = pools
+            .each_mut()
+            .map(|(table, pool)| (pool.choose(table, choice), pool.values(table)));
+        assert_eq!(answers[0], answers[1]);
+    }
+    let [(table, pool), _] = pools;
+    assert_eq!(*pool.values(table).unwrap().unwrap(), [7]);
+}
+
 #[test]
 fn as_many_values_as_main_returns() {
     let two = [
@@ -179,7 +250,7 @@ fn words_of_another_number() {
 #[test]
 fn numbers_by_name() {
     let reasons: Vec<u8> = Reason::ALL.iter().map(|r| r.number()).collect();
-    assert_eq!(reasons, (1..=22).collect::<Vec<u8>>());
+    assert_eq!(reasons, (1..=23).collect::<Vec<u8>>());
     let rules: Vec<u8> = Rule::ALL.iter().map(|&rule| rule.into()).collect();
     assert_eq!(rules, (1..=10).collect::<Vec<u8>>());
     for &reason in Reason::ALL {
@@ -188,7 +259,7 @@ fn numbers_by_name() {
     for &rule in Rule::ALL {
         assert_eq!(Rule::try_from(rule.number()), Ok(rule));
     }
-    assert_eq!(Reason::try_from(23), Err(Unknown(23)));
+    assert_eq!(Reason::try_from(24), Err(Unknown(24)));
     assert_eq!(Rule::try_from(0), Err(Unknown(0)));
     assert_eq!(Kind::try_from(1), Ok(Kind::Promote));
     assert_eq!(Choice::new(Kind::Promote, 3), Choice { kind: 1, thread: 3 });

@@ -56,6 +56,9 @@ impl No {
 
     // the calls of an accepted table
     pub const CYCLE: u8 = 22;
+
+    // the tidy table
+    pub const ROOM: u8 = 23;
 }
 
 // The rules of figure 3.

@@ -4,19 +4,17 @@ use Prim.Native.Nat.{ℕ, zero, suc, _≤_, _<_}
 use mathlib.Core.Path.{_≡_, refl, sym, _∙_, ap, subst}
 use mathlib.Core.Logic.{_⊎_, inl, inr, ⊎-elim}
 use mathlib.Core.Option.{Option, none, some}
-use mathlib.Core.List.{List, [], _∷_}
+use mathlib.Core.List.{List}
 use native.Mathlib.Nat.{eq-or-lt-of-le, le-of-suc-le-suc}
 use native.Mathlib.Omega.{arith}
 use lib.ListN.{length, getElem?}
 use Rattle.model.specs.Numbers as No
 use Rattle.model.specs.Answers.{Refusal, Answer, with}
-use Rattle.model.specs.Syntax.{Statement, Transfer, Signature, Program}
-use Rattle.model.specs.WellFormed.{Env, env, signatureOf, WF-transfer, WF-code, WF-block, WF-fun, WF-prog}
-use Rattle.model.specs.Check.{judge}
+use Rattle.model.specs.Syntax.{Transfer, Signature, Program}
+use Rattle.model.specs.WellFormed.{Env, env, signatureOf, WF-transfer, WF-block, WF-fun, WF-prog}
 use Rattle.model.specs.Calls.{read, check}
-use Rattle.model.specs.Output as Output
 use Rattle.model.proofs.Facts.{map-some, refused-given, given-injective, each-at, at-below}
-use Rattle.model.proofs.Accepted.{check-wf}
+use Rattle.model.proofs.Accepted.{check-wf, accepts, refuses, code-transfer}
 use Rattle.model.proofs.Guarantees.{read-limits}
 use Rattle.chains.specs.Chains.{Calls, Cyclic, Needs, Deepest}
 use Rattle.chains.specs.Depth.{framesFrom, numbers, deepest, deep, depth}
@@ -26,20 +24,20 @@ use Rattle.chains.proofs.Worked.{Greatest, Says, greatest-says, needs-o
 use Rattle.chains.proofs.Cycles.{long-cyclic, cyclic-there, cyclic-beyond}
 
 -- in a well-formed program every function that is called is there
-code-callee : (E : Env) (Γ : ℕ) (ρ : List ℕ) (C : List Statement) (T : Transfer) {g b : ℕ} {x̄ : List ℕ} → T ≡ Transfer.call g x̄ b →
-    WF-code E Γ ρ C T → (S : Signature) × (E .function g ≡ some S)
-unfolding WF-code WF-transfer
-code-callee E Γ ρ [] T {g} {b} {x̄} e h =
+call-there : (E : Env) (Γ : ℕ) (ρ : List ℕ) {T : Transfer} {g b : ℕ} {x̄ : List ℕ} → T ≡ Transfer.call g x̄ b → WF-transfer E Γ ρ T →
+    (S : Signature) × (E .function g ≡ some S)
+unfolding WF-transfer
+call-there E Γ ρ {T} {g} {b} {x̄} e h =
     let w : WF-transfer E Γ ρ (Transfer.call g x̄ b) = subst (WF-transfer E Γ ρ) e h in
     (w .1 .0 .signature, w .1 .0 .there)
-code-callee E Γ ρ (s ∷ C) T e h = code-callee E _ ρ C T e (h .2)
 
 pub callee-there : (P : Program) → WF-prog P → (f g : ℕ) → Calls P f g → g < length P
 unfolding env
 callee-there P W f g c =
     let F = each-at (WF-fun P) P f (W .functions) (c .there) in
     let B = each-at (WF-block (env P (c .function))) (c .function .blocks) (c .number) (F .blocks) (c .has) in
-    let S = code-callee (env P (c .function)) _ _ (c .block .code) (c .block .transfer) (c .is) (B .code) in
+    let T = code-transfer (env P (c .function)) _ _ (c .block .code) (c .block .transfer) (B .code) in
+    let S = call-there (env P (c .function)) _ _ (c .is) (T .1) in
     let G = map-some signatureOf (getElem? P g) (S .1) in
     at-below P g (G .1)
 
@@ -134,19 +132,16 @@ deep-either (some d) = inl (d, refl)
 
 -- the depth of a table that the check accepts, refuses, or that has one
 pub depth-accepted : (s : List ℕ) (P : Program) → check s ≡ Answer.given tt → read s ≡ Answer.given P → depth s ≡ deep (deepest P)
-unfolding depth Output.accepted check with
-depth-accepted s P h r = let j : judge P ≡ Answer.given tt = rw r at h in rw (r, j) refl
+unfolding depth with
+depth-accepted s P h r =
+    let A = accepts s h in
+    let e : A .program ≡ P = given-injective (sym (A .reads) ∙ r) in
+    rw (A .is, e) refl
 
 module _ (s : List ℕ) where
-  judged-refused : (q : Refusal) (a : Answer Program) → with a judge ≡ Answer.refused q →
-      with (with a λ P. with (judge P) λ _. Answer.given P) (λ P. deep (deepest P)) ≡ Answer.refused q
-  unfolding with
-  judged-refused q (Answer.given P) h = rw h refl
-  judged-refused q (Answer.refused r) h = let e : r ≡ q = cc in rw e refl
-
   depth-refused : (q : Refusal) → check s ≡ Answer.refused q → depth s ≡ Answer.refused q
-  unfolding depth Output.accepted check
-  depth-refused q h = judged-refused q (read s) h
+  unfolding depth with
+  depth-refused q h = rw (refuses s q h) refl
 
   depth-only : (d : ℕ) → depth s ≡ Answer.given d → check s ≡ Answer.given tt
   depth-only d e = go (check s) refl

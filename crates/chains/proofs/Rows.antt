@@ -6,7 +6,8 @@ use lib.ListN.{length}
 use Rattle.model.specs.Numbers as No
 use Rattle.model.specs.Answers.{Refusal, Answer}
 use Rattle.model.specs.Lists.{concat}
-use Rattle.model.specs.Output as Output
+use Rattle.model.specs.Syntax.{calledBy}
+use Rattle.model.specs.Calls.{accepted}
 use Rattle.model.proofs.Runs.{all}
 use Rattle.chains.specs.Depth as Depth
 use Rattle.chains.specs.Depth.{depth}
@@ -103,6 +104,6 @@ rows =
 -- every row is right
 pub right : map (λ r. depth (r .bytes)) rows ≡ map (λ r. r .answer) rows
 unfolding all
-    Output.accepted Depth.calledBy Depth.calledIn Depth.calleesOf Depth.greater Depth.greatest Depth.framesFrom Depth.numbers Depth.deepest
+    accepted calledBy Depth.calledIn Depth.calleesOf Depth.greater Depth.greatest Depth.framesFrom Depth.numbers Depth.deepest
     Depth.deep depth
 right = refl

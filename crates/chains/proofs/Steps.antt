@@ -6,10 +6,10 @@ use mathlib.Core.Option.{Option, none, some}
 use mathlib.Core.List.{List, [], _∷_, _++_}
 use native.Mathlib.Omega.{arith}
 use lib.ListN.{getElem?}
-use Rattle.model.specs.Syntax.{Transfer, Block, Function, Program}
+use Rattle.model.specs.Syntax.{Transfer, Block, Function, Program, calledBy}
 use Rattle.model.proofs.Facts.{none-some, some-injective}
 use Rattle.chains.specs.Chains.{Calls, Chain}
-use Rattle.chains.specs.Depth.{calledBy, calledIn, calleesOf, callees}
+use Rattle.chains.specs.Depth.{calledIn, calleesOf, callees}
 
 -- x is in a list
 abbrev pub In : ℕ → List ℕ → Type 0

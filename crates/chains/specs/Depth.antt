@@ -6,17 +6,8 @@ use mathlib.Core.List.{List, [], _∷_, _++_}
 use lib.ListN.{length, getElem?}
 use Rattle.model.specs.Numbers as No
 use Rattle.model.specs.Answers.{Refusal, Answer, with}
-use Rattle.model.specs.Syntax.{Transfer, Block, Function, Program}
-use Rattle.model.specs.Output.{accepted}
-
--- the function that a transfer calls, if it calls one
-unfoldable pub calledBy : Transfer → List ℕ
-calledBy (Transfer.goto b x̄) = []
-calledBy (Transfer.if e b c) = []
-calledBy (Transfer.call g x̄ b) = g ∷ []
-calledBy (Transfer.return x̄) = []
-calledBy (Transfer.spork b π) = []
-calledBy (Transfer.spoin b c) = []
+use Rattle.model.specs.Syntax.{Block, Function, Program, calledBy}
+use Rattle.model.specs.Calls.{accepted}
 
 -- the callees of blocks, and of function f
 unfoldable pub calledIn : List Block → List ℕ

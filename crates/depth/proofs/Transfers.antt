@@ -4,7 +4,7 @@ use mathlib.Core.Path.{_≡_, refl, subst}
 use mathlib.Core.Option.{some}
 use mathlib.Core.List.{List, []}
 use lib.ListN.{getElem?}
-use Rattle.model.specs.Syntax.{Program}
+use Rattle.model.specs.Syntax.{Program, calledBy}
 use Rattle.model.specs.Pool.{blockIn}
 use Rattle.places.specs.declared.Place.{Place}
 use Rattle.places.specs.declared.Place.the-variants.{At, Nowhere}
@@ -12,7 +12,6 @@ use Rattle.places.specs.Places.{Places, FindsCode}
 use Rattle.code.specs.Bytes.{byteAt, past}
 use Rattle.code.specs.Code.{statementsEnd, codeEnd, transferOf, transferAt}
 use Rattle.code.proofs.Decoding.{code-is}
-use Rattle.chains.specs.Depth.{calledBy}
 use Rattle.depth.specs.declared.Called.the-variants.{Function, Nothing, NoBlock}
 use Rattle.depth.specs.Works.{callsIn, FindsCall}
 

@@ -5,11 +5,11 @@ use mathlib.Core.Option.{Option, none, some}
 use mathlib.Core.List.{List, [], _∷_}
 use lib.ListN.{length, getElem?, getD}
 use Rattle.model.specs.Answers.{Answer}
-use Rattle.model.specs.Syntax.{Block, Program}
+use Rattle.model.specs.Syntax.{Block, Program, calledBy}
 use Rattle.model.specs.Pool.{blockIn}
 use Rattle.answers.specs.Answers.{refusalOf}
 use Rattle.places.specs.Places.{Places}
-use Rattle.chains.specs.Depth.{calledBy, framesFrom, deepest}
+use Rattle.chains.specs.Depth.{framesFrom, deepest}
 use Rattle.depth.specs.declared.Called.{Called}
 use Rattle.depth.specs.declared.Called.the-variants as called
 use Rattle.depth.specs.declared.Chain.{Chain}

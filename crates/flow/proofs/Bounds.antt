@@ -14,7 +14,8 @@ use Rattle.model.specs.Lists.{concat}
 use Rattle.model.specs.Syntax.{Program}
 use Rattle.model.specs.Rules.{Result, choice}
 use Rattle.model.specs.Text.{ascii, newline, digit, spaced, decimalIn, decimal, signedDecimal, part, signedPart}
-use Rattle.model.specs.Output.{kindName, ruleName, refusal, answered, told, choiceLine, valuesOrOpen, resultLine, accepted}
+use Rattle.model.specs.Output.{kindName, ruleName, refusal, answered, told, choiceLine, valuesOrOpen, resultLine}
+use Rattle.model.specs.Calls.{accepted}
 use Rattle.flow.specs.Stages.{Stage, whole, opening, next, says, said}
 
 either-most : (b : Bool) (xs ys : List ℕ) (n : ℕ) → length xs ≤ n → length ys ≤ n → length (cond b xs ys) ≤ n

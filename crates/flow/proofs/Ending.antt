@@ -19,8 +19,8 @@ use Rattle.eval.specs.Given.{lookedOf}
 use Rattle.eval.proofs.Buffers.{looked-of}
 use Rattle.steps.specs.Choice as Steps
 use Rattle.steps.proofs.Choosing.{main-looked}
-use Rattle.text.specs.Puts.{Puts}
-use Rattle.text.proofs.Laws.{then}
+use Rattle.puts.specs.Puts.{Puts}
+use Rattle.puts.proofs.Laws.{then}
 use Rattle.flow.specs.declared.Phase.the-variants.{Taking, Choosing, Stopped, Over}
 use Rattle.flow.specs.declared.Run.{Run}
 use Rattle.flow.specs.Stages.{Stage, ends}

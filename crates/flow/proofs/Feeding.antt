@@ -14,10 +14,10 @@ use Rattle.model.proofs.Facts.{ltb-true, ltb-false}
 use Rattle.model.specs.Syntax.{Program}
 use Rattle.model.specs.Pool.{Pool}
 use Rattle.model.specs.Rules.{Result, choice}
-use Rattle.model.specs.Output.{accepted}
-use Rattle.text.specs.Puts.{Puts}
-use Rattle.text.proofs.Laws.{same, then, front}
-use Rattle.text.proofs.Laws.{none as nothing}
+use Rattle.model.specs.Calls.{accepted}
+use Rattle.puts.specs.Puts.{Puts}
+use Rattle.puts.proofs.Laws.{same, then, front}
+use Rattle.puts.proofs.Laws.{none as nothing}
 use Rattle.flow.specs.declared.Run.{Run}
 use Rattle.flow.specs.Stages.{Stage, whole, opened, chosen, next, says, after, said}
 use Rattle.flow.specs.Stands.{pieceBytes, textBytes, Memory, restart, Stands, indexOf, Steps, TakesAny, Text, Fed, Feeds}

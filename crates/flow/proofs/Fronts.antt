@@ -1,10 +1,10 @@
 -- What is printed byte by byte, and at the end, is the whole output.
 use Prim.Native.Nat.{ℕ, _≤_, _<_}
 use mathlib.Core.Path.{_≡_, refl, sym, _∙_, ap}
-use mathlib.Core.Bool.{Bool, true, false, not, _&&_, _||_}
+use mathlib.Core.Bool.{Bool, true, false, not, _||_}
 use mathlib.Core.List.{List, [], _∷_, _++_}
 use native.Mathlib.Omega.{arith}
-use lib.Dec.{leb, eqb}
+use lib.Dec.{leb}
 use lib.ListN.{length, take, drop, length-take, length-append, take-append-drop}
 use lib.Seq.{take-append-seam, drop-append-seam}
 use Rattle.model.specs.Numbers as No
@@ -12,8 +12,9 @@ use Rattle.model.specs.Answers.{Refusal, Answer, with}
 use Rattle.model.specs.Syntax.{Program}
 use Rattle.model.specs.Read.{lengthField, sized, readFrom}
 use Rattle.model.specs.Read as Read
-use Rattle.model.specs.Output.{accepted}
-use Rattle.model.proofs.Facts.{refused-given, true-false, and-left, and-right, both-and, or-right, leb-true, leb-false, eqb-true, le-leb}
+use Rattle.model.specs.Calls.{accepted}
+use Rattle.model.proofs.Facts.{refused-given, true-false, and-left, and-right, both-and, or-right, leb-true, leb-false, le-leb}
+use Rattle.model.proofs.Guarantees.{sized-is}
 use Rattle.flow.specs.Stages.{limited, whole}
 use Rattle.flow.proofs.Field.{same-field}
 
@@ -24,22 +25,6 @@ tooBad = Answer.refused (Refusal.plain No.size)
 pub unsized : (t : List ℕ) → sized t (lengthField t) ≡ false → accepted t ≡ tooBad
 unfolding accepted Read.read readFrom with
 unsized t e = rw e refl
-
-pub record Sized (t : List ℕ) (n : ℕ) : Type 0 where
-  pub least : 6 ≤ length t
-  pub most : length t ≤ 16384
-  pub is : n ≡ length t
-
-pub sized-is : (t : List ℕ) (n : ℕ) → sized t n ≡ true → Sized t n
-unfolding sized
-sized-is t n e =
-    let a = leb 6 (length t) in let b = leb (length t) 16384 in let c = eqb n (length t) in
-    let both = and-left (a && b) c e in
-    record {
-      least = leb-true 6 (length t) (and-left a b both);
-      most = leb-true (length t) 16384 (and-right a b both);
-      is = eqb-true n (length t) (and-right (a && b) c e);
-    }
 
 -- the front of an input that its length field says, where that is a table of the right size
 pub record Fronted (x : List ℕ) : Type 0 where

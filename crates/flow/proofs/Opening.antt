@@ -7,17 +7,17 @@ use lib.ListN.{length}
 use Rattle.model.specs.Answers.{Answer}
 use Rattle.model.specs.Pool.{wordsOf, started}
 use Rattle.model.specs.Text.{ascii, newline}
-use Rattle.model.specs.Output.{refusal, accepted}
+use Rattle.model.specs.Output.{refusal}
 use Rattle.model.proofs.Words.{started-pool}
-use Rattle.model.proofs.Printed.{accepts, refuses}
+use Rattle.model.proofs.Accepted.{accepts, refuses}
 use Rattle.answers.specs.declared.Answer as Code
 use Rattle.answers.specs.declared.Answer.the-variants.{Given, Refused}
 use Rattle.answers.specs.declared.Refusal as Why
 use Rattle.answers.specs.Answers.{refusalOf, answerOf}
 use Rattle.table.proofs.Answered.{left-places}
 use Rattle.verifier.specs.Means.{CheckedAs}
-use Rattle.text.specs.Puts.{Puts}
-use Rattle.text.proofs.Laws.{then}
+use Rattle.puts.specs.Puts.{Puts}
+use Rattle.puts.proofs.Laws.{then}
 use Rattle.flow.specs.declared.Phase.the-variants.{Choosing, Over}
 use Rattle.flow.specs.declared.Run.{Run}
 use Rattle.flow.specs.Stages.{opened, opening}

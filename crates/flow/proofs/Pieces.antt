@@ -13,7 +13,8 @@ use Rattle.model.specs.Read.{lengthField}
 use Rattle.model.specs.Pool.{Pool, started}
 use Rattle.model.specs.Rules.{Result, choice}
 use Rattle.model.specs.Text.{ascii, newline}
-use Rattle.model.specs.Output.{answered, choiceLine, result, goingOn, choices, allMade, accepted, printed, agreed, output, verdict}
+use Rattle.model.specs.Output.{answered, choiceLine, result, goingOn, choices, allMade, printed, agreed, output, verdict}
+use Rattle.model.specs.Calls.{accepted}
 use Rattle.model.proofs.Facts.{true-false}
 use Rattle.flow.specs.Stages.{Stage, beginning, whole, opened, opening, chosen, next, says, after, said, ends, closed, fine}
 use Rattle.flow.specs.Pieces.{printedOf, InPieces, Judged, Deaf}

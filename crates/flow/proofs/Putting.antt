@@ -14,7 +14,7 @@ use Rattle.steps.specs.declared.Made.the-variants.{Rule, Refused}
 use Rattle.steps.specs.Choice as Steps
 use Rattle.steps.specs.Choice.{madeOf}
 use Rattle.steps.proofs.Choosing.{chose-made, chose-refused}
-use Rattle.text.specs.Puts.{Puts}
+use Rattle.puts.specs.Puts.{Puts}
 use Rattle.flow.specs.declared.Phase.the-variants.{Choosing, Stopped}
 use Rattle.flow.specs.declared.Run.{Run}
 use Rattle.flow.specs.Stages.{chosen}

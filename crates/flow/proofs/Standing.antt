@@ -8,11 +8,11 @@ use mathlib.Core.List.{List, [], _∷_, _++_}
 use lib.IntN.{ℤ}
 use lib.ListN.{length, take, set, length-take, length-set}
 use Rattle.model.specs.Rules.{choice}
-use Rattle.model.specs.Output.{accepted}
+use Rattle.model.specs.Calls.{accepted}
 use Rattle.model.proofs.Facts.{none-some, some-injective}
 use Rattle.flow.specs.declared.Phase.{Phase}
 use Rattle.flow.specs.declared.Phase.the-variants.{Taking, Choosing, Stopped, Over}
-use Rattle.text.proofs.Laws.{none as nothing}
+use Rattle.puts.proofs.Laws.{none as nothing}
 use Rattle.flow.specs.declared.Run.{Run}
 use Rattle.flow.specs.Stages.{Stage, whole, opened, opening, chosen, next, says, closed, fine}
 use Rattle.flow.specs.Stands.{Memory, memory, runAt, halfRun, keptIf, StandsBy, Stands, indexOf, Looks, Opens}

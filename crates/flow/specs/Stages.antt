@@ -13,7 +13,8 @@ use Rattle.model.specs.Read.{lengthField}
 use Rattle.model.specs.Pool.{Pool, started}
 use Rattle.model.specs.Rules.{Result, choice}
 use Rattle.model.specs.Text.{ascii, newline}
-use Rattle.model.specs.Output.{refusal, answered, choiceLine, result, accepted}
+use Rattle.model.specs.Output.{refusal, answered, choiceLine, result}
+use Rattle.model.specs.Calls.{accepted}
 
 pub data Stage : Type 0 where
   taking : List ℕ → Stage  -- the table is taken: the bytes so far

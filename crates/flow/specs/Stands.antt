@@ -9,10 +9,11 @@ use lib.ListN.{length, take, drop}
 use Rattle.model.specs.Syntax.{Program}
 use Rattle.model.specs.Pool.{Pool, wordsOf, isPool}
 use Rattle.model.specs.Rules.{choice}
-use Rattle.model.specs.Output.{accepted, answered, choiceLine}
+use Rattle.model.specs.Output.{answered, choiceLine}
+use Rattle.model.specs.Calls.{accepted}
 use Rattle.places.specs.Marks.{nowhere}
 use Rattle.places.specs.Places.{Places}
-use Rattle.text.specs.Puts.{Puts}
+use Rattle.puts.specs.Puts.{Puts}
 use Rattle.flow.specs.declared.Phase.{Phase}
 use Rattle.flow.specs.declared.Phase.the-variants.{Taking, Choosing, Stopped, Over}
 use Rattle.flow.specs.declared.Run.{Run}

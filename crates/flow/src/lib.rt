@@ -132,7 +132,7 @@ fn open(
     match verifier::check_placed(t, places) {
         Answer::Given => {
             pool::start_pool(ws);
-            let k = text::bytes(out, said, b"accepted\n");
+            let k = puts::bytes(out, said, b"accepted\n");
             run_at(Phase::Choosing, t.len(), 0, k)
         }
         Answer::Refused(why) => {

@@ -35,7 +35,7 @@ given-in v h = rw (given-is v h, given-value v h)
 
 -- a refusal that a number has room for
 abbrev pub Fits : Refusal → Type 0
-Fits (Refusal.plain n) = Within 1 2 n ⊎ Within 12 22 n
+Fits (Refusal.plain n) = Within 1 2 n ⊎ Within 12 23 n
 Fits (Refusal.byte at) = at ≤ 16384
 Fits (Refusal.fault n f b) = Within 4 11 n × (f < 16) × (b < 256)
 
@@ -50,12 +50,12 @@ and-right-false true b e = e
 and-right-false false b e = refl
 
 -- 3 and 4 to 11 have a place
-unplaced : (n : ℕ) → Within 1 2 n ⊎ Within 12 22 n → (eqb n No.form ≡ false) × ((leb No.main n && leb n No.nesting) ≡ false)
+unplaced : (n : ℕ) → Within 1 2 n ⊎ Within 12 23 n → (eqb n No.form ≡ false) × ((leb No.main n && leb n No.nesting) ≡ false)
 unplaced n (inl h) = (ne-eqb n No.form (λ e. omega arith), ap (λ (b : Bool). b && leb n No.nesting) (lt-leb No.main n (omega arith)))
 unplaced n (inr h) = (ne-eqb n No.form (λ e. omega arith), and-right-false (leb No.main n) _ (lt-leb n No.nesting (omega arith)))
 
 module _ (r : ℕ) where
-  pub plain-in : (n : ℕ) → number r ≡ n → Within 1 2 n ⊎ Within 12 22 n → refusalIn r ≡ Refusal.plain n
+  pub plain-in : (n : ℕ) → number r ≡ n → Within 1 2 n ⊎ Within 12 23 n → refusalIn r ≡ Refusal.plain n
   unfolding refusalIn
   plain-in n e h = let (p, q) = unplaced n h in rw (e, p, q)
 

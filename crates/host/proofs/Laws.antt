@@ -2,13 +2,14 @@
 use Prim.Native.Nat.{ℕ, _^_, _≤_, _<_}
 use mathlib.Core.Path.{_≡_, refl, sym, _∙_, ap}
 use mathlib.Core.Logic.{_⊎_, inl, inr}
-use mathlib.Core.Bool.{true, false}
+use mathlib.Core.Bool.{Bool, true, false}
 use mathlib.Core.Option.{Option, none, some}
-use mathlib.Core.List.{List, [], _∷_}
+use mathlib.Core.List.{List, [], _∷_, _++_}
 use native.Mathlib.Omega.{arith}
-use lib.Dec.{eqb, lit≤}
+use lib.Dec.{eqb, leb, lit≤}
 use lib.IntN.{ℤ}
 use lib.ListN.{length, getD, getElem?, take, drop}
+use lib.Seq.{take-append-seam, drop-append-seam}
 use Rattle.model.specs.Numbers as No
 use Rattle.model.specs.Numbers.{Within, RuleOf}
 use Rattle.model.specs.Answers.{Refusal, Answer, numberOf, outcome}
@@ -17,27 +18,32 @@ use Rattle.model.specs.Limits.{InFunction}
 use Rattle.model.specs.Pool.{wordsOf, started}
 use Rattle.model.specs.Calls as Calls
 use Rattle.model.specs.Calls.{Choice}
-use Rattle.model.proofs.Facts.{true-false, ne-eqb, each-at, at-below}
+use Rattle.model.proofs.Facts.{true-false, refused-given, ne-eqb, leb-true, leb-false, each-at, at-below}
 use Rattle.model.proofs.Words.{started-words}
 use Rattle.model.proofs.Accepted.{check-wf}
-use Rattle.model.proofs.Guarantees.{read-limits}
+use Rattle.model.proofs.Guarantees.{sized-is, reads, read-limits}
 use Rattle.model.proofs.Kept.{OnSome}
 use Rattle.model.proofs.Numbers as Numbers
 use Rattle.model.proofs.Numbers.{Can, Any, read-can, check-can, start-can, choose-can, schedule-can, which-can, values-can}
 use Rattle.model.proofs.Numbers.{read-heading, start-begins, start-leaves, choose-leaves}
-use Rattle.answers.specs.Coded.{codeOf}
+use Rattle.answers.specs.Coded.{given, codeOf}
 use Rattle.chains.specs.Depth.{depth}
 use Rattle.chains.specs.Means.{Accepted}
 use Rattle.chains.proofs.Means.{depth-means}
+use Rattle.numbering.specs.Tidy.{Wrote, put, tidy}
+use Rattle.numbering.specs.Means.{Tidies}
+use Rattle.numbering.proofs.Answers.{put-fits, put-short}
+use Rattle.numbering.proofs.Theorem.{tidy-means}
 use Rattle.host.specs.Macros.{isGiven, value, number, block, function}
 use Rattle.host.specs.Exports.{done, asNumber, stepperOf, counted, over, written}
-use Rattle.host.specs.Contracts.{Read, Check, Depth, Start, Choose, Schedule, Which, Values}
+use Rattle.host.specs.Contracts.{Read, Check, Depth, Tidy, Start, Choose, Schedule, Which, Values}
 use Rattle.host.specs.Laws as Laws
 use Rattle.host.specs.Laws.{answerIn, threadIn, valuesIn, fresh, Placed, OfTable, OfProgram, OfPool, OfChoice, StopsAt}
-use Rattle.host.specs.Laws.{ReadTells, CheckTells, DepthTells, StartTells, ChooseTells, ScheduleTells, WhichTells, ValuesTells}
+use Rattle.host.specs.Laws.{ReadTells, CheckTells, DepthTells, TidyTells, StartTells, ChooseTells, ScheduleTells, WhichTells}
+use Rattle.host.specs.Laws.{ValuesTells}
 use Rattle.host.proofs.Codes.{Fits, Gave, Refused, done-code, number-code, stepper-code, counted-code, thread, count}
-use Rattle.host.proofs.Codes.{valued, tells, gave, refused}
-use Rattle.host.proofs.Macros.{read-given, read-refused, done-read, stopped-read}
+use Rattle.host.proofs.Codes.{given-in, refused-in, valued, tells, gave, refused}
+use Rattle.host.proofs.Macros.{read-given, read-refused, done-read, stopped-read, read-done}
 
 -- what the model can refuse fits into a number, and what the macros then read
 table-fits : {s : List ℕ} (q : Refusal) → Numbers.OfTable s q → Fits q
@@ -232,6 +238,133 @@ depth-law s r m =
           let A = depth-means .accepted s (check-wf s h .0) h (check-wf s h .1) in
           gets-cycle (asNumber a) told (A .answered) e;
     })
+
+-- what a table is answered: the check's refusal; or, by the tidy table t, its length or 23
+data Tidied (s out : List ℕ) : Type 0 where
+  unchecked : (q : Refusal) → Numbers.OfCheck s q → Calls.check s ≡ Answer.refused q →
+      tidy s out ≡ record { answer = Answer.refused q; after = out } → Tidied s out
+  fits : Calls.check s ≡ Answer.given tt → (t : List ℕ) → Tidies s t → length t ≤ length out →
+      tidy s out ≡ record { answer = Answer.given (length t); after = t ++ drop (length t) out } → Tidied s out
+  short : Calls.check s ≡ Answer.given tt → (t : List ℕ) → Tidies s t → length out < length t →
+      tidy s out ≡ record { answer = Answer.refused (Refusal.plain No.room); after = out } → Tidied s out
+
+tidied : (s out : List ℕ) → Tidied s out
+tidied s out = go (Calls.check s) refl (check-can s)
+  where
+    on : Calls.check s ≡ Answer.given tt → (t : List ℕ) → Tidies s t → tidy s out ≡ put No.room out t →
+        (b : Bool) → leb (length t) (length out) ≡ b → Tidied s out
+    on h t T e true l = let f = leb-true _ _ l in Tidied.fits h t T f (e ∙ put-fits No.room out t f)
+    on h t T e false l = let f = leb-false _ _ l in Tidied.short h t T f (e ∙ put-short No.room out t f)
+
+    go : (a : Answer (Unit {0})) → Calls.check s ≡ a → Can Any (Numbers.OfCheck s) a → Tidied s out
+    go (Answer.given u) e h = let (t, T, p) = tidy-means .accepted s e in on e t T (p out) (leb (length t) (length out)) refl
+    go (Answer.refused q) e h = Tidied.unchecked q h e (tidy-means .refused s out q e)
+
+-- a table that the check accepts is short
+accepted-short : (s : List ℕ) → Calls.check s ≡ Answer.given tt → length s ≤ 16384
+accepted-short s e = sized-is s _ (reads s (check-wf s e .0) (check-wf s e .1) .sized) .most
+
+-- the number and the output of a tidy table that fits
+record Put (out t : List ℕ) (r : ℕ) (out′ : List ℕ) : Type 0 where
+  told : answerIn r ≡ Answer.given (length t)
+  yes : isGiven r ≡ true
+  counted : value r ≡ length t
+  is : out′ ≡ t ++ drop (length t) out
+  front : take (value r) out′ ≡ t
+
+was-put : (s out t : List ℕ) (r : ℕ) (out′ : List ℕ) → Tidy s out r out′ → length t ≤ 16384 →
+    tidy s out ≡ record { answer = Answer.given (length t); after = t ++ drop (length t) out } → Put out t r out′
+unfolding asNumber
+was-put s out t r out′ m l e =
+    let n : r ≡ given (length t) = m .number ∙ ap (λ (w : Wrote). asNumber (w .answer)) e in
+    let a : answerIn r ≡ Answer.given (length t) = ap answerIn n ∙ given-in (length t) (omega arith) in
+    let v : value r ≡ length t = read-given r a .1 in
+    let o : out′ ≡ t ++ drop (length t) out = m .bytes ∙ ap (λ (w : Wrote). w .after) e in
+    record {
+      told = a;
+      yes = read-given r a .0;
+      counted = v;
+      is = o;
+      front = rw (v, o) (take-append-seam t (drop (length t) out));
+    }
+
+-- the number of a refusal
+was-refused : (s out : List ℕ) (q : Refusal) (r : ℕ) (out′ : List ℕ) → Tidy s out r out′ → Fits q →
+    tidy s out ≡ record { answer = Answer.refused q; after = out } → (r ≡ codeOf q) × (answerIn r ≡ Answer.refused q) × (isGiven r ≡ false)
+unfolding asNumber
+was-refused s out q r out′ m f e =
+    let n : r ≡ codeOf q = m .number ∙ ap (λ (w : Wrote). asNumber (w .answer)) e in
+    let a : answerIn r ≡ Answer.refused q = ap answerIn n ∙ refused-in q f in
+    (n, a, read-refused r a .0)
+
+tidies-short : {s t : List ℕ} → Calls.check s ≡ Answer.given tt → Tidies s t → length t ≤ 16384
+tidies-short {s} h T = let x = T .shorter in let y = accepted-short s h in omega arith
+
+pub tidy-law : (s out : List ℕ) (r : ℕ) (out′ : List ℕ) → Tidy s out r out′ → TidyTells s out r out′
+unfolding done numberOf
+tidy-law s out r out′ m = go (tidied s out)
+  where
+    go : Tidied s out → TidyTells s out r out′
+    go (Tidied.unchecked q h k e) =
+        let (n, a, not) = was-refused s out q r out′ m (check-fits q h) e in
+        record {
+          answers = a ∙ sym (ap (λ (w : Wrote). w .answer) e);
+          given = λ g. true-false (isGiven r) g not;
+          accepted = λ g. true-false (isGiven r) g not;
+          again = λ g. true-false (isGiven r) g not;
+          behind = λ g. true-false (isGiven r) g not;
+          unchecked = λ c i g. n ∙ sym (i ∙ ap done k);
+          refused = λ c i g. refused-given (sym k ∙ done-read c (Calls.check s) (check-law s c i .answers) g);
+          enough = λ c i g. refused-given (sym k ∙ done-read c (Calls.check s) (check-law s c i .answers) g);
+          unwritten = λ g. m .bytes ∙ ap (λ (w : Wrote). w .after) e;
+        }
+    go (Tidied.fits h t T l e) =
+        let p = was-put s out t r out′ m (tidies-short h T) e in
+        record {
+          answers = p .told ∙ sym (ap (λ (w : Wrote). w .answer) e);
+          given = λ g. rw (p .counted) (T .shorter, l);
+          accepted = λ g c i. read-done c (check-law (take (value r) out′) c i .answers ∙ ap Calls.check (p .front) ∙ T .accepted);
+          again = λ g d q d′ i.
+              let j : tidy (take (value r) out′) d ≡ tidy s d = ap (λ (x : List ℕ). tidy x d) (p .front) ∙ T .again d in
+              record {
+                number = i .number ∙ ap (λ (w : Wrote). asNumber (w .answer)) j;
+                bytes = i .bytes ∙ ap (λ (w : Wrote). w .after) j;
+              };
+          behind = λ g. rw (p .counted, p .is) (drop-append-seam t (drop (length t) out));
+          unchecked = λ c i g. refused-given (sym (stopped-read c (Calls.check s) (check-law s c i .answers) g) ∙ h);
+          refused = λ c i g z. true-false (isGiven r) (p .yes) z;
+          enough = λ c i g z. p .yes;
+          unwritten = λ z. true-false (isGiven r) (p .yes) z;
+        }
+    go (Tidied.short h t T l e) =
+        let (n, a, not) = was-refused s out (Refusal.plain No.room) r out′ m (inr (lit≤ tt, lit≤ tt)) e in
+        record {
+          answers = a ∙ sym (ap (λ (w : Wrote). w .answer) e);
+          given = λ g. true-false (isGiven r) g not;
+          accepted = λ g. true-false (isGiven r) g not;
+          again = λ g. true-false (isGiven r) g not;
+          behind = λ g. true-false (isGiven r) g not;
+          unchecked = λ c i g. refused-given (sym (stopped-read c (Calls.check s) (check-law s c i .answers) g) ∙ h);
+          refused = λ c i g z. read-refused r a .1;
+          enough = λ c i g z. let x = T .shorter in absurd (omega arith);
+          unwritten = λ z. m .bytes ∙ ap (λ (w : Wrote). w .after) e;
+        }
+
+-- where it is given: the table is accepted, and the first bytes of the output are its tidy table
+pub record Archived (s t : List ℕ) : Type 0 where
+  pub accepted : Calls.check s ≡ Answer.given tt
+  pub tidies : Tidies s t
+
+pub tidy-archived : (s out : List ℕ) (r : ℕ) (out′ : List ℕ) → Tidy s out r out′ → isGiven r ≡ true → Archived s (take (value r) out′)
+tidy-archived s out r out′ m g = go (tidied s out)
+  where
+    go : Tidied s out → Archived s (take (value r) out′)
+    go (Tidied.unchecked q h k e) = true-false (isGiven r) g (was-refused s out q r out′ m (check-fits q h) e .2)
+    go (Tidied.fits h t T l e) =
+        let p = was-put s out t r out′ m (tidies-short h T) e in
+        record { accepted = h; tidies = rw (p .front) T }
+    go (Tidied.short h t T l e) =
+        true-false (isGiven r) g (was-refused s out (Refusal.plain No.room) r out′ m (inr (lit≤ tt, lit≤ tt)) e .2)
 
 -- the words of the fresh pool
 started-fresh : wordsOf started ≡ fresh
@@ -440,6 +573,7 @@ laws =
       read = read-law;
       check = check-law;
       depth = depth-law;
+      tidy = tidy-law;
       start = start-law;
       choose = choose-law;
       schedule = schedule-law;

@@ -4,3 +4,4 @@ pub mod Laws
 pub mod Macros
 pub mod Sessions
 pub mod Roomy
+pub mod Archive

@@ -8,8 +8,9 @@ use Rattle.model.specs.Answers.{outcome}
 use Rattle.model.specs.Calls as Calls
 use Rattle.model.specs.Calls.{Choice}
 use Rattle.chains.specs.Depth.{depth}
+use Rattle.numbering.specs.Tidy.{tidy}
 use Rattle.host.specs.Exports as Exports
-use Rattle.host.specs.Exports.{done, asNumber, Gives, Finds, Tells}
+use Rattle.host.specs.Exports.{done, asNumber, Gives, Writes, Finds, Tells}
 
 abbrev pub Read : List ℕ → ℕ → Type 0
 Read s r = r ≡ done (outcome (Calls.read s))
@@ -19,6 +20,10 @@ Check s r = r ≡ done (Calls.check s)
 
 abbrev pub Depth : List ℕ → ℕ → Type 0
 Depth s r = r ≡ asNumber (depth s)
+
+-- the output before and afterwards
+abbrev pub Tidy : List ℕ → List ℕ → ℕ → List ℕ → Type 0
+Tidy s out r out′ = Writes (tidy s out) r out′
 
 -- the pool's words before and afterwards
 abbrev pub Start : List ℕ → List ℤ → ℕ → List ℤ → Type 0

@@ -8,6 +8,7 @@ use lib.ListN.{length}
 use Rattle.model.specs.Answers.{Answer}
 use Rattle.model.specs.Calls as Calls
 use Rattle.model.specs.Calls.{Called, Which}
+use Rattle.numbering.specs.Tidy.{Wrote}
 use Rattle.answers.specs.Coded.{given, codeOf}
 use Rattle.host.specs.Macros.{noThread, stillOpen}
 
@@ -16,7 +17,7 @@ unfoldable pub done : Answer (Unit {0}) → ℕ
 done (Answer.given u) = given 0
 done (Answer.refused r) = codeOf r
 
--- an answer that gives a number: a choice's rule, the depth of a table
+-- an answer that gives a number: a choice's rule, the depth of a table, the length of the tidy table
 unfoldable pub asNumber : Answer ℕ → ℕ
 asNumber (Answer.given n) = given n
 asNumber (Answer.refused r) = codeOf r
@@ -49,6 +50,11 @@ written (Answer.refused r) ws = ws
 pub record Gives {A : Type 0} (code : Answer A → ℕ) (c : Called A) (r : ℕ) (ws : List ℤ) : Type 0 where
   pub number : r ≡ code (c .answer)
   pub words : ws ≡ c .after
+
+-- a call's answer as a number, and the output afterwards
+pub record Writes (w : Wrote) (r : ℕ) (out : List ℕ) : Type 0 where
+  pub number : r ≡ asNumber (w .answer)
+  pub bytes : out ≡ w .after
 
 -- the number of some right answer to which thread can step
 pub record Finds (s : List ℕ) (ws : List ℤ) (r : ℕ) : Type 0 where

@@ -16,8 +16,9 @@ use Rattle.model.specs.Pool.{frameCountAt, threadCountAt, threadStart}
 use Rattle.model.specs.Calls as Calls
 use Rattle.model.specs.Calls.{Choice}
 use Rattle.chains.specs.Depth.{depth}
+use Rattle.numbering.specs.Tidy.{tidy}
 use Rattle.host.specs.Macros.{isGiven, value, number, place, block, function, poolWords, noThread, stillOpen}
-use Rattle.host.specs.Contracts.{Read, Check, Depth, Start, Choose, Schedule, Which, Values}
+use Rattle.host.specs.Contracts.{Read, Check, Depth, Tidy, Start, Choose, Schedule, Which, Values}
 
 -- what the macros read in a refused number: for 3 a place, for 4 to 11 a function and a block
 unfoldable pub refusalIn : ℕ → Refusal
@@ -85,6 +86,21 @@ pub record DepthTells (s : List ℕ) (r : ℕ) : Type 0 where
   pub unchecked : (c : ℕ) → Check s c → isGiven c ≡ false → r ≡ c
   pub refused : (c : ℕ) → Check s c → isGiven c ≡ true → isGiven r ≡ false → number r ≡ No.cycle
 
+-- mezdaulk_tidy: the value is the length of the tidy table, which stands at the start of the output; the bytes behind it stay. It is no
+-- longer than the table, mezdaulk_check accepts it, and mezdaulk_tidy answers and writes for it what it does for the table. A table
+-- that mezdaulk_check refuses gets the same number; an accepted one is given, or gets 23, which it never does with an output as long
+-- as itself. Refused, nothing is written
+pub record TidyTells (s out : List ℕ) (r : ℕ) (out′ : List ℕ) : Type 0 where
+  pub answers : answerIn r ≡ tidy s out .answer
+  pub given : isGiven r ≡ true → (value r ≤ length s) × (value r ≤ length out)
+  pub accepted : isGiven r ≡ true → (c : ℕ) → Check (take (value r) out′) c → isGiven c ≡ true
+  pub again : isGiven r ≡ true → (e : List ℕ) (q : ℕ) (e′ : List ℕ) → Tidy (take (value r) out′) e q e′ → Tidy s e q e′
+  pub behind : isGiven r ≡ true → drop (value r) out′ ≡ drop (value r) out
+  pub unchecked : (c : ℕ) → Check s c → isGiven c ≡ false → r ≡ c
+  pub refused : (c : ℕ) → Check s c → isGiven c ≡ true → isGiven r ≡ false → number r ≡ No.room
+  pub enough : (c : ℕ) → Check s c → isGiven c ≡ true → length s ≤ length out → isGiven r ≡ true
+  pub unwritten : isGiven r ≡ false → out′ ≡ out
+
 -- a fresh pool: one thread, with one frame at main's entry. Every other word is 0
 unfoldable pub fresh : List ℤ
 fresh = set (set (replicate poolWords (pos 0)) threadCountAt (pos 1)) (threadStart 0 + frameCountAt) (pos 1)
@@ -136,6 +152,7 @@ pub record Laws : Type 0 where
   pub read : (s : List ℕ) (r : ℕ) → Read s r → ReadTells s r
   pub check : (s : List ℕ) (r : ℕ) → Check s r → CheckTells s r
   pub depth : (s : List ℕ) (r : ℕ) → Depth s r → DepthTells s r
+  pub tidy : (s out : List ℕ) (r : ℕ) (out′ : List ℕ) → Tidy s out r out′ → TidyTells s out r out′
   pub start : (s : List ℕ) (ws : List ℤ) (r : ℕ) (ws′ : List ℤ) → Start s ws r ws′ → StartTells s ws r ws′
   pub choose : (s : List ℕ) (ws : List ℤ) (kind thread r : ℕ) (ws′ : List ℤ) → Choose s ws kind thread r ws′ →
       ChooseTells s ws kind thread r ws′

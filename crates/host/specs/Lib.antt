@@ -4,3 +4,4 @@ pub mod Contracts
 pub mod Laws
 pub mod Sessions
 pub mod Roomy
+pub mod Archive

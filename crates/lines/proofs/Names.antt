@@ -7,8 +7,8 @@ use Rattle.model.specs.Text.{ascii, spaced, part}
 use Rattle.model.specs.Numbers as No
 use Rattle.model.specs.Output.{kindName, ruleName}
 use Rattle.model.proofs.Facts.{ne-eqb}
-use Rattle.text.specs.Puts.{Puts}
-use Rattle.text.proofs.Laws.{same}
+use Rattle.puts.specs.Puts.{Puts}
+use Rattle.puts.proofs.Laws.{same}
 
 module _ (d : List ℕ) (at r : ℕ) (d′ : List ℕ) (x : ℕ) where
   -- a text that is the name of what x was found to be

@@ -11,8 +11,8 @@ use Rattle.answers.specs.Answers.{refusalOf}
 use Rattle.steps.specs.declared.Made.{Made}
 use Rattle.steps.specs.declared.Made.the-variants.{Rule, Refused}
 use Rattle.steps.specs.Choice.{madeOf}
-use Rattle.text.specs.Puts.{Puts}
-use Rattle.text.proofs.Laws.{then}
+use Rattle.puts.specs.Puts.{Puts}
+use Rattle.puts.proofs.Laws.{then}
 
 pub plain : (d d₁ d₂ : List ℕ) (at k l : ℕ) (why : Refusal) (n : ℕ) → why ≡ Plain n → Puts d at (ascii "refused") k d₁
     → Puts d₁ k (part n) l d₂

@@ -12,8 +12,8 @@ use Rattle.model.specs.Text.{ascii, newline, signedPart}
 use Rattle.model.specs.Output.{valuesOrOpen, resultLine}
 use Rattle.eval.specs.declared.Looked.{Looked}
 use Rattle.eval.specs.Given.{valuesOf, lookedOf}
-use Rattle.text.specs.Puts.{Puts}
-use Rattle.text.proofs.Laws.{none, then, same}
+use Rattle.puts.specs.Puts.{Puts}
+use Rattle.puts.proofs.Laws.{none, then, same}
 
 abbrev pub spelt : List ℤ → List ℕ
 spelt v̄ = concat (map signedPart v̄)

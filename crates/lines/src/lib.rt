@@ -13,17 +13,17 @@ ghost use Rattle.model.specs.Output as Output;
 ghost use Rattle.answers.specs.Answers.{refusalOf};
 ghost use Rattle.eval.specs.Given.{valuesOf, lookedOf};
 ghost use Rattle.steps.specs.Choice.{madeOf};
-ghost use Rattle.text.specs.Puts.{Puts};
+ghost use Rattle.puts.specs.Puts.{Puts};
 
 // A space, and the name of a choice's kind; a bad kind is a number.
 fn kind_name(out: &mut [u8], at: usize, kind: u8) -> usize
     ensures { λ r. ⌜ Puts (now (out .entry)) at (spaced (kindName kind)) r (now (out .exit)) ⌝ }
 {
     if kind == 0 {
-        return text::bytes(out, at, b" step");
+        return puts::bytes(out, at, b" step");
     }
     if kind == 1 {
-        return text::bytes(out, at, b" promote");
+        return puts::bytes(out, at, b" promote");
     }
     text::part(out, at, kind as u64)
 }
@@ -33,40 +33,40 @@ fn rule_name(out: &mut [u8], at: usize, rule: u8) -> usize
     ensures { λ r. ⌜ Puts (now (out .entry)) at (spaced (ruleName rule)) r (now (out .exit)) ⌝ }
 {
     if rule == Rule::STMT {
-        return text::bytes(out, at, b" stmt");
+        return puts::bytes(out, at, b" stmt");
     }
     if rule == Rule::GOTO {
-        return text::bytes(out, at, b" goto");
+        return puts::bytes(out, at, b" goto");
     }
     if rule == Rule::THEN {
-        return text::bytes(out, at, b" then");
+        return puts::bytes(out, at, b" then");
     }
     if rule == Rule::ELSE {
-        return text::bytes(out, at, b" else");
+        return puts::bytes(out, at, b" else");
     }
     if rule == Rule::CALL {
-        return text::bytes(out, at, b" call");
+        return puts::bytes(out, at, b" call");
     }
     if rule == Rule::RETURN {
-        return text::bytes(out, at, b" return");
+        return puts::bytes(out, at, b" return");
     }
     if rule == Rule::SPORK {
-        return text::bytes(out, at, b" spork");
+        return puts::bytes(out, at, b" spork");
     }
     if rule == Rule::UNPR {
-        return text::bytes(out, at, b" unpr");
+        return puts::bytes(out, at, b" unpr");
     }
     if rule == Rule::PROM {
-        return text::bytes(out, at, b" prom");
+        return puts::bytes(out, at, b" prom");
     }
-    text::bytes(out, at, b" promote")
+    puts::bytes(out, at, b" promote")
 }
 
 // A refusal: its number, and its place where it has one.
 pub fn refusal(out: &mut [u8], at: usize, why: Refusal) -> usize
     ensures { λ r. ⌜ Puts (now (out .entry)) at (Output.refusal (refusalOf why)) r (now (out .exit)) ⌝ }
 {
-    let k = text::bytes(out, at, b"refused");
+    let k = puts::bytes(out, at, b"refused");
     match why {
         Refusal::Plain(number) => text::part(out, k, number as u64),
         Refusal::Byte(place) => {
@@ -88,7 +88,7 @@ fn told(out: &mut [u8], at: usize, made: Made) -> usize
     match made {
         Made::Rule(rule) => rule_name(out, at, rule),
         Made::Refused(number) => {
-            let k = text::bytes(out, at, b" refused");
+            let k = puts::bytes(out, at, b" refused");
             text::part(out, k, number as u64)
         }
     }
@@ -127,11 +127,11 @@ fn values(out: &mut [u8], at: usize, v: Values) -> usize
 pub fn result(out: &mut [u8], at: usize, main: Looked) -> usize
     ensures { λ r. ⌜ Puts (now (out .entry)) at (resultLine (lookedOf main)) r (now (out .exit)) ⌝ }
 {
-    let k = text::bytes(out, at, b"result");
+    let k = puts::bytes(out, at, b"result");
     if main.ok {
         let k = values(out, k, main.values);
         return text::line(out, k);
     }
-    let k = text::bytes(out, k, b" open");
+    let k = puts::bytes(out, k, b" open");
     text::line(out, k)
 }

@@ -5,10 +5,13 @@ use mathlib.Core.List.{List}
 use lib.IntN.{ℤ}
 use Rattle.model.specs.Answers.{Answer}
 use Rattle.model.specs.Calls.{Called, Which}
-use Rattle.answers.specs.declared.Answer as Code
 use Rattle.calls.specs.declared.Stepping.{Stepping}
 use Rattle.calls.specs.Calls.{called, steppingOf}
-use Rattle.host.specs.Exports.{stepperOf, Gives, Finds}
+use Rattle.numbering.specs.Tidy.{Wrote}
+use Rattle.tidy.specs.declared.Written.{Written}
+use Rattle.tidy.specs.Writes as Tidy
+use Rattle.tidy.specs.Writes.{writtenOf}
+use Rattle.host.specs.Exports.{asNumber, stepperOf, Gives, Writes, Finds}
 
 -- the number of the case that was found is that of the answer
 pub told : {A B : Type 0} (code : A → ℕ) (of : B → A) {r q : B} {n : ℕ} → r ≡ q → n ≡ code (of q) → n ≡ code (of r)
@@ -26,3 +29,7 @@ gives code a e d =
 -- the answer that is left to the program
 pub finds : {s : List ℕ} {ws : List ℤ} {n : ℕ} (r : Stepping) → Which s ws (steppingOf r) → n ≡ stepperOf (steppingOf r) → Finds s ws n
 finds r h d = record { answer = steppingOf r; right = h; number = d }
+
+-- a call that leaves bytes
+pub wrote : {w : Wrote} {n : ℕ} (r : Written) {out : List ℕ} → Tidy.Writes w r out → n ≡ asNumber (writtenOf r) → Writes w n out
+wrote r h d = record { number = d ∙ ap asNumber (h .answer); bytes = h .after }

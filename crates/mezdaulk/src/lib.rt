@@ -6,6 +6,7 @@ use calls::Stepping;
 use depth::Needed;
 use schedule::Choice;
 use schedule::Scheduled;
+use tidy::Written;
 ghost use mathlib.Core.Path.{_≡_};
 ghost use Prim.Native.Nat.{min};
 ghost use mathlib.Core.Bool.{cond};
@@ -57,6 +58,16 @@ pub extern "C" fn mezdaulk_depth(table: &[u8]) -> u64
     match depth::depth(table) {
         Needed::Frames(frames) => answers::value(frames as u32),
         Needed::Refused(why) => answers::code(why),
+    }
+}
+
+#[no_mangle]
+pub extern "C" fn mezdaulk_tidy(table: &[u8], out: &mut [u8]) -> u64
+    ensures { λ r. ⌜ Contracts.Tidy (now (table .entry)) (now (out .entry)) r (now (out .exit)) ⌝ }
+{
+    match tidy::tidy(table, out) {
+        Written::Bytes(n) => answers::value(n),
+        Written::Refused(why) => answers::code(why),
     }
 }
 

@@ -1,7 +1,7 @@
 -- The check accepts exactly the well-formed programs of figure 4: for each part of a program the tests' facts are the rule's
 -- premises, both ways.
 use Prim.Native.Nat.{ℕ, _+_}
-use mathlib.Core.Path.{_≡_, refl}
+use mathlib.Core.Path.{_≡_, refl, ap}
 use mathlib.Core.Bool.{true, not, _&&_, _||_}
 use mathlib.Core.Option.{Option, none, some}
 use mathlib.Core.List.{List, [], _∷_, _++_}
@@ -9,7 +9,7 @@ use native.Mathlib.Omega.{arith}
 use lib.Dec.{eqb}
 use lib.ListN.{getElem?}
 use Rattle.model.specs.Answers as Answers
-use Rattle.model.specs.Answers.{Answer}
+use Rattle.model.specs.Answers.{Refusal, Answer}
 use Rattle.model.specs.Lists.{Each, equal, unsnoc}
 use Rattle.model.specs.Sets.{has, with, below, _∈_}
 use Rattle.model.specs.Syntax.{Statement, Transfer, Head, Block, SpawnCall, Function, Program}
@@ -18,7 +18,7 @@ use Rattle.model.specs.WellFormed.{Env, env, WF-cont, WF-transfer, WF-co
 use Rattle.model.specs.WellFormed.{WF-prog}
 use Rattle.model.specs.Check as Check
 use Rattle.model.specs.Check.{Placed, at, firstFault, judge}
-use Rattle.model.specs.Calls.{read, check}
+use Rattle.model.specs.Calls.{read, check, accepted}
 use Rattle.model.specs.Limits.{InFunction, Limits}
 use Rattle.model.proofs.Facts.{eqb-true, eq-eqb, ne-eqb, not-true, false-not, and-left, and-right, both-and, left-or, right-or}
 use Rattle.model.proofs.Facts.{all-each, each-all, each-map, equal-same, same-equal, unsnoc-some, unsnoc-snoc, below-at}
@@ -288,3 +288,31 @@ check-wf s e = go (read s) refl e
 pub wf-check : (s : List ℕ) (P : Program) → read s ≡ Answer.given P → WF-prog P → check s ≡ Answer.given tt
 unfolding check Answers.with
 wf-check s P e W = rw e (wf-accepted P W)
+
+-- the program of a table that the check accepts
+pub record Accepts (t : List ℕ) : Type 0 where
+  pub program : Program
+  pub reads : read t ≡ Answer.given program
+  pub is : accepted t ≡ Answer.given program
+
+pub accepts : (t : List ℕ) → check t ≡ Answer.given tt → Accepts t
+unfolding check accepted Answers.with
+accepts t e = go (read t) refl e
+  where
+    go : (a : Answer Program) → read t ≡ a → Answers.with a judge ≡ Answer.given tt → Accepts t
+    go (Answer.given P) q j = record { program = P; reads = q; is = rw (q, j) refl }
+    go (Answer.refused x) q j = refused-given j
+
+pub refuses : (t : List ℕ) (x : Refusal) → check t ≡ Answer.refused x → accepted t ≡ Answer.refused x
+unfolding check accepted Answers.with
+refuses t x e = go (read t) refl e
+  where
+    go : (a : Answer Program) → read t ≡ a → Answers.with a judge ≡ Answer.refused x → accepted t ≡ Answer.refused x
+    go (Answer.given P) q j = rw (q, j) refl
+    go (Answer.refused y) q j = let z : y ≡ x = cc in rw q (ap Answer.refused z)
+
+-- the transfer of well-formed code is well formed where the code ends
+pub code-transfer : (E : Env) (Γ : ℕ) (ρ : List ℕ) (C : List Statement) (T : Transfer) → WF-code E Γ ρ C T → (Δ : ℕ) × WF-transfer E Δ ρ T
+unfolding WF-code
+code-transfer E Γ ρ [] T w = (Γ, w)
+code-transfer E Γ ρ (s ∷ C) T w = code-transfer E _ ρ C T (w .2)

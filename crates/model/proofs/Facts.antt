@@ -72,11 +72,15 @@ pub map-some : {A B : Type 0} (f : A → B) (o : Option A) {b : B} → Option·m
 map-some f none e = none-some e
 map-some f (some a) e = (a, refl, some-injective e)
 
--- Each: weakened, appended, and as a test
+-- Each: weakened, joined, appended, and as a test
 module _ {A : Type 0} where
   pub each-map : {P Q : A → Type 0} → ((x : A) → P x → Q x) → (xs : List A) → Each P xs → Each Q xs
   each-map f [] h = tt
   each-map f (x ∷ xs) h = (f x (h .0), each-map f xs (h .1))
+
+  pub each-both : (P Q : A → Type 0) (xs : List A) → Each P xs → Each Q xs → Each (λ x. P x × Q x) xs
+  each-both P Q [] h g = tt
+  each-both P Q (x ∷ xs) h g = ((h .0, g .0), each-both P Q xs (h .1) (g .1))
 
   pub each-append : (P : A → Type 0) (xs ys : List A) → Each P xs → Each P ys → Each P (xs ++ ys)
   each-append P [] ys h g = g

@@ -2,10 +2,10 @@
 -- the table follows its rule.
 use Prim.Native.Nat.{ℕ, zero, suc, _+_, _*_, _^_, _≤_, _<_}
 use mathlib.Core.Path.{_≡_, refl, ap, subst}
-use mathlib.Core.Bool.{Bool, true, false, cond}
+use mathlib.Core.Bool.{Bool, true, false, _&&_, cond}
 use mathlib.Core.List.{List, [], _∷_, _++_}
 use native.Mathlib.Omega.{arith}
-use lib.Dec.{eqb}
+use lib.Dec.{leb, eqb}
 use lib.ListN.{length, getD}
 use Rattle.model.specs.Answers.{Refusal, Answer}
 use Rattle.model.specs.Lists.{Each}
@@ -15,7 +15,7 @@ use Rattle.model.specs.Read.{Parsed, Parser, byte, many, counted, pick, 
 use Rattle.model.specs.Values.{signed}
 use Rattle.model.specs.Pool.{temporaries}
 use Rattle.model.specs.Limits.{Temporaries, Arguments, InStatement, InTransfer, InHead, InBlock, InSpawn, InFunction, Limits}
-use Rattle.model.proofs.Facts.{refused-given, eqb-true, eq-eqb, each-append}
+use Rattle.model.proofs.Facts.{refused-given, and-left, and-right, both-and, leb-true, le-leb, eqb-true, eq-eqb, each-append}
 use Rattle.model.proofs.Reading.{bad-ok, ok-value, next-ok, byte-ok}
 
 -- p gives only values with Q
@@ -181,6 +181,29 @@ function = functionBy head
 
 pub program : Gives Read.program Limits
 program = programBy head
+
+-- a table of the right size, as the test has it and as facts
+pub record Sized (s : List ℕ) (field : ℕ) : Type 0 where
+  pub least : 6 ≤ length s
+  pub most : length s ≤ 16384
+  pub is : field ≡ length s
+
+pub sized-is : (s : List ℕ) (n : ℕ) → Read.sized s n ≡ true → Sized s n
+unfolding Read.sized
+sized-is s n e =
+    let a = leb 6 (length s) in let b = leb (length s) 16384 in let c = eqb n (length s) in
+    let both = and-left (a && b) c e in
+    record {
+      least = leb-true 6 (length s) (and-left a b both);
+      most = leb-true (length s) 16384 (and-right a b both);
+      is = eqb-true n (length s) (and-right (a && b) c e);
+    }
+
+pub is-sized : (s : List ℕ) (n : ℕ) → Sized s n → Read.sized s n ≡ true
+unfolding Read.sized
+is-sized s n h =
+    both-and _ (eqb n (length s)) (both-and _ (leb (length s) 16384) (le-leb 6 (length s) (h .least)) (le-leb (length s) 16384 (h .most)))
+    (eq-eqb n (length s) (h .is))
 
 -- what reads has its sizes and version, and is a program that ends where the table ends
 pub record Reads (s : List ℕ) (P : Program) : Type 0 where

@@ -2,6 +2,8 @@ pub mod Facts
 pub mod Holds
 pub mod Reading
 pub mod Guarantees
+pub mod Undoing
+pub mod Writing
 pub mod Accepted
 pub mod Sets
 pub mod Members

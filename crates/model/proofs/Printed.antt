@@ -2,7 +2,7 @@
 -- computation, byte for byte.
 use Prim.Native.Nat.{ℕ}
 use Prim.Native.String.{String}
-use mathlib.Core.Path.{_≡_, refl, ap}
+use mathlib.Core.Path.{_≡_, refl}
 use native.Mathlib.Omega.{arith}
 use mathlib.Core.Bool.{Bool, true, false}
 use mathlib.Core.List.{List, [], _∷_, _++_, map}
@@ -11,13 +11,11 @@ use Rattle.model.specs.Lists.{concat}
 use Rattle.model.specs.Text as Text
 use Rattle.model.specs.Text.{ascii, newline}
 use Rattle.model.specs.Output as Output
-use Rattle.model.specs.Output.{refusal, accepted, printed, output, verdict}
-use Rattle.model.specs.Answers.{Refusal, Answer, with}
-use Rattle.model.specs.Syntax.{Program}
+use Rattle.model.specs.Output.{refusal, printed, output, verdict}
+use Rattle.model.specs.Answers.{Refusal, Answer}
 use Rattle.model.specs.Read.{lengthField}
-use Rattle.model.specs.Check.{judge}
-use Rattle.model.specs.Calls.{read, check}
-use Rattle.model.proofs.Facts.{refused-given}
+use Rattle.model.specs.Calls.{check, accepted}
+use Rattle.model.proofs.Accepted.{accepts, refuses}
 use Rattle.model.proofs.Runs.{all, A, B, swapped, sum, recursive, tree}
 
 -- an input, what is printed of it, and whether everything was accepted and made
@@ -84,30 +82,8 @@ pub right : (map (λ r. output (r .input)) rows ≡ map (λ r. lines (r .prints)
 unfolding all
     Text.decimalIn Text.decimal Text.signedDecimal Text.part Text.signedPart Output.kindName Output.ruleName Output.refusal
     Output.answered Output.told Output.choiceLine Output.valuesOrOpen Output.resultLine Output.result Output.goingOn Output.choices
-    Output.accepted Output.printed output Output.allMade Output.agreed verdict
+    accepted Output.printed output Output.allMade Output.agreed verdict
 right = (refl, refl)
-
--- the program of a table that the check accepts
-pub record Accepts (t : List ℕ) : Type 0 where
-  pub program : Program
-  pub reads : read t ≡ Answer.given program
-  pub is : accepted t ≡ Answer.given program
-
-pub accepts : (t : List ℕ) → check t ≡ Answer.given tt → Accepts t
-unfolding check accepted with
-accepts t e = go (read t) refl e
-  where
-    go : (a : Answer Program) → read t ≡ a → with a judge ≡ Answer.given tt → Accepts t
-    go (Answer.given P) q j = record { program = P; reads = q; is = rw (q, j) refl }
-    go (Answer.refused x) q j = refused-given j
-
-pub refuses : (t : List ℕ) (x : Refusal) → check t ≡ Answer.refused x → accepted t ≡ Answer.refused x
-unfolding check accepted with
-refuses t x e = go (read t) refl e
-  where
-    go : (a : Answer Program) → read t ≡ a → with a judge ≡ Answer.refused x → accepted t ≡ Answer.refused x
-    go (Answer.given P) q j = rw (q, j) refl
-    go (Answer.refused y) q j = let z : y ≡ x = cc in rw q (ap Answer.refused z)
 
 -- the first line is the check's yes, and only that: of the front of the input that its length field says
 pub says-yes : (s : List ℕ) → check (take (lengthField s) s) ≡ Answer.given tt → take 9 (output s) ≡ ascii "accepted\n"

@@ -3,7 +3,7 @@ use Prim.Native.Nat.{ℕ}
 use Rattle.model.specs.Numbers as No
 
 pub data Refusal : Type 0 where
-  plain : ℕ → Refusal  -- the number alone: 1, 2, 12 to 22
+  plain : ℕ → Refusal  -- the number alone: 1, 2, 12 to 23
   byte : ℕ → Refusal  -- 3, and the offset of the first bad byte
   fault : ℕ → ℕ → ℕ → Refusal  -- 4 to 11, and the function and the block
 

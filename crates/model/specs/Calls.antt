@@ -24,6 +24,10 @@ read s = Read.read s
 unfoldable pub check : List ℕ → Answer (Unit {0})
 check s = with (read s) judge
 
+-- the program of an accepted table
+unfoldable pub accepted : List ℕ → Answer Program
+accepted s = with (read s) λ P. with (judge P) λ _. Answer.given P
+
 -- an answer, and the lent words afterwards
 pub record Called (A : Type 0) : Type 0 where
   pub answer : Answer A

@@ -17,3 +17,4 @@ pub mod Calls
 pub mod Text
 pub mod Output
 pub mod Limits
+pub mod Write

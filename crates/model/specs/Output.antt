@@ -10,12 +10,11 @@ use Rattle.model.specs.Numbers as No
 use Rattle.model.specs.Lists.{concat}
 use Rattle.model.specs.Text.{ascii, newline, decimal, spaced, part, signedPart}
 use Rattle.model.specs.Syntax.{Program}
-use Rattle.model.specs.Answers.{Refusal, Answer, with}
+use Rattle.model.specs.Answers.{Refusal, Answer}
 use Rattle.model.specs.Read.{lengthField}
-use Rattle.model.specs.Check.{judge}
 use Rattle.model.specs.Pool.{Pool, started}
 use Rattle.model.specs.Rules.{Result, choice, mainValues}
-use Rattle.model.specs.Calls.{read}
+use Rattle.model.specs.Calls.{accepted}
 
 -- the name of a choice's kind; a bad one in decimal
 unfoldable pub kindName : ℕ → List ℕ
@@ -73,10 +72,6 @@ choices P p i (kind ∷ []) = result P p
 choices P p i (kind ∷ thread ∷ s) =
     let r = choice P p kind thread in
     choiceLine i kind thread (answered r) ++ goingOn r (result P p) (λ p′. choices P p′ (i + 1) s)
-
--- the program of an accepted table
-unfoldable pub accepted : List ℕ → Answer Program
-accepted t = with (read t) λ P. with (judge P) λ _. Answer.given P
 
 unfoldable pub printed : Answer Program → List ℕ → List ℕ
 printed (Answer.given P) s = ascii "accepted" ++ newline ++ choices P started 0 s

@@ -72,3 +72,28 @@ uses (Expression.atom m) = usesAtom m
 uses (Expression.minus m) = usesAtom m
 uses (Expression.plus m n) = usesAtom m ++ usesAtom n
 uses (Expression.less m n) = usesAtom m ++ usesAtom n
+
+-- what a transfer names, from left to right: blocks of its function; the spawn call of a spork; the function of a call
+unfoldable pub targets : Transfer → List ℕ
+targets (Transfer.goto b x̄) = b ∷ []
+targets (Transfer.if e b c) = b ∷ c ∷ []
+targets (Transfer.call g x̄ b) = b ∷ []
+targets (Transfer.return x̄) = []
+targets (Transfer.spork b π) = b ∷ []
+targets (Transfer.spoin b c) = b ∷ c ∷ []
+
+unfoldable pub sporkedBy : Transfer → List ℕ
+sporkedBy (Transfer.goto b x̄) = []
+sporkedBy (Transfer.if e b c) = []
+sporkedBy (Transfer.call g x̄ b) = []
+sporkedBy (Transfer.return x̄) = []
+sporkedBy (Transfer.spork b π) = π ∷ []
+sporkedBy (Transfer.spoin b c) = []
+
+unfoldable pub calledBy : Transfer → List ℕ
+calledBy (Transfer.goto b x̄) = []
+calledBy (Transfer.if e b c) = []
+calledBy (Transfer.call g x̄ b) = g ∷ []
+calledBy (Transfer.return x̄) = []
+calledBy (Transfer.spork b π) = []
+calledBy (Transfer.spoin b c) = []

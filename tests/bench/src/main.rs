@@ -34,6 +34,10 @@ fn main() {
     row("check", &dense_name, Some(1.2), check(&dense), 1);
     let depths = rows("depth", &later, depth);
     row("depth", &dense_name, Some(1.2), depth(&dense), 1);
+    let tidies = any
+        .each_ref()
+        .map(|(name, set)| row("tidy", name, None, tidy(set), 1));
+    row("tidy", &dense_name, None, tidy(&dense), 1);
     let small = looping::small(CHOICES);
     let rich = looping::rich(CHOICES);
     let runs: Vec<Looping> = [&small, &rich]
@@ -61,7 +65,12 @@ fn main() {
             )
         })
         .collect();
-    growth([(&any, &reads), (&any, &checks), (&later, &depths)]);
+    growth([
+        ("read", &any, &reads),
+        ("check", &any, &checks),
+        ("depth", &later, &depths),
+        ("tidy", &any, &tidies),
+    ]);
     same_program(&runs, &schedules);
     runner::time(&small, CHOICES);
     runner::time(&rich, CHOICES);
@@ -123,8 +132,27 @@ fn depth(tables: &[Vec<u8>]) -> Duel {
     )
 }
 
+/// Into an output with room for any table, which both sides have of their own.
+fn tidy(tables: &[Vec<u8>]) -> Duel {
+    let (mut left, mut right) = ([0; TABLE_MAX], [0; TABLE_MAX]);
+    for table in tables {
+        let written = lent::tidy(table, &mut left).ok();
+        assert_eq!(written, fast::tidy(table, &mut right).ok());
+        assert_eq!(left, right);
+    }
+    each(
+        tables,
+        |table| lent::tidy(table, black_box(&mut left)).is_ok(),
+        |table| fast::tidy(table, black_box(&mut right)).is_ok(),
+    )
+}
+
 /// A call on each table of a set, which must be given; the time is of one.
-fn each(tables: &[Vec<u8>], library: impl Fn(&[u8]) -> bool, fast: impl Fn(&[u8]) -> bool) -> Duel {
+fn each(
+    tables: &[Vec<u8>],
+    mut library: impl FnMut(&[u8]) -> bool,
+    mut fast: impl FnMut(&[u8]) -> bool,
+) -> Duel {
     duel(
         || assert!(tables.iter().all(|table| library(black_box(table)))),
         || assert!(tables.iter().all(|table| fast(black_box(table)))),
@@ -222,18 +250,18 @@ fn schedule(run: &Looping) -> Duel {
     duel
 }
 
-/// How the library's times of reading, checking and the depth grow with the
-/// table.
-fn growth(calls: [(&Sets, &[Duel; 3]); 3]) {
-    println!("\n| Table | read, each byte | check, each byte | depth, each byte |");
-    println!("|---|---|---|---|");
+/// How the library's times of the calls on a table alone grow with the table.
+fn growth(calls: [(&str, &Sets, &[Duel; 3]); 4]) {
+    let heads = calls.map(|(call, ..)| format!("{call}, each byte"));
+    println!("\n| Table | {} |", heads.join(" | "));
+    println!("|---|---|---|---|---|");
     for size in 0..3 {
-        let each = calls.map(|(sets, duels)| {
+        let each = calls.map(|(_, sets, duels)| {
             let (_, set) = &sets[size];
             let bytes: usize = set.iter().map(Vec::len).sum();
             show(duels[size].library * set.len() as f64 / bytes as f64)
         });
-        println!("| {} | {} |", calls[0].0[size].0, each.join(" | "));
+        println!("| {} | {} |", calls[0].1[size].0, each.join(" | "));
     }
 }
 

@@ -2,9 +2,10 @@
 
 use fast::Fast;
 use oracle::encode::encode;
-use oracle::gen::{calls, faults, scenario};
+use oracle::gen::{calls, faults, programs, scenario, twins};
 use oracle::machine::{differences, tables_differ};
 use oracle::rng::Rng;
+use oracle::stored::tidy_rows;
 
 #[test]
 fn same_answers() {
@@ -26,5 +27,23 @@ fn same_depths() {
         faults::plant_any(rng, &mut program);
         let found = tables_differ(&Fast, &encode(&program));
         assert!(found.is_empty(), "round {round}, with a fault: {found:?}");
+    }
+}
+
+/// Tables with much dead code, and the stored ones with their tidy tables.
+#[test]
+fn same_tidy_tables() {
+    for row in tidy_rows() {
+        let found = tables_differ(&Fast, &row.table);
+        assert!(found.is_empty(), "{}: {found:?}", row.name);
+        let mut out = vec![0; row.tidy.len()];
+        assert_eq!(fast::tidy(&row.table, &mut out), Ok(out.len()));
+        assert_eq!(out, row.tidy, "{}", row.name);
+    }
+    for round in 0..4_000 {
+        let rng = &mut Rng::of_round(9, round);
+        let program = programs::accepted(rng);
+        let found = tables_differ(&Fast, &encode(&twins::twin(rng, &program)));
+        assert!(found.is_empty(), "round {round}: {found:?}");
     }
 }

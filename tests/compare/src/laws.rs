@@ -10,6 +10,7 @@ const POOL_WORDS: usize = 1673;
 const PROMOTE: u32 = 1;
 const OPEN: u32 = 255;
 const CYCLE: u8 = 22;
+const ROOM: u8 = 23;
 
 fn is_given(number: u64) -> bool {
     number >> 32 & 1 == 1
@@ -53,7 +54,7 @@ pub fn answer_in(number: u64) -> Result<u32, Refusal> {
 }
 
 /// A call, the values that it can give and the numbers it can refuse with, as
-/// ranges.
+/// ranges. Every value must occur, but of a range of more than 256 some one.
 pub struct Call {
     name: &'static str,
     values: &'static [(u32, u32)],
@@ -63,11 +64,16 @@ pub struct Call {
 pub const READ: Call = call("read", &[(0, 0)], &[(1, 3)]);
 pub const CHECK: Call = call("check", &[(0, 0)], &[(1, 11)]);
 pub const DEPTH: Call = call("depth", &[(1, 16)], &[(1, 11), (CYCLE, CYCLE)]);
+const TIDY: Call = call("tidy", &[LENGTHS], &[(1, 11), (ROOM, ROOM)]);
 const START: Call = call("start", &[(0, 0)], &[(1, 3), (12, 12)]);
 const CHOOSE: Call = call("choose", &[(1, 10)], &[(1, 3), (12, 21)]);
 pub const WHICH: Call = call("which", &[(0, 8)], &[(1, 3), (12, 13)]);
 const VALUES: Call = call("values", &[(0, 4), (OPEN, OPEN)], &[(1, 3), (12, 13)]);
 const SCHEDULE: Call = call("schedule", &[(0, 0)], &[(1, 3), (12, 21)]);
+
+/// The lengths of accepted tables: a function of one block that returns, up to
+/// the largest.
+const LENGTHS: (u32, u32) = (17, 16_384);
 
 const fn call(
     name: &'static str,
@@ -91,8 +97,12 @@ impl Call {
 
     /// The name of an answer's event.
     fn event(&self, answer: Result<u32, u8>) -> String {
+        let wide = |&&(from, to): &&(u32, u32)| to - from > 255;
         match answer {
-            Ok(value) => format!("{} gives {value}", self.name),
+            Ok(value) => match self.values.iter().find(wide) {
+                Some((from, to)) => format!("{} gives {from} to {to}", self.name),
+                None => format!("{} gives {value}", self.name),
+            },
             Err(number) => format!("{} refuses {number}", self.name),
         }
     }
@@ -122,6 +132,12 @@ const FUNCTION: &str = "law: a fault's function is one of the table's";
 const ACCEPTED: &str = "law: a depth or 22 exactly where the check accepts";
 const REFUSED: &str = "law: a depth refused as the check is";
 const FUNCTIONS: &str = "law: a depth of at most the table's functions";
+const TIDIED: &str = "law: a tidy table or 23 exactly where the check accepts";
+const UNTIDIED: &str = "law: a tidy table refused as the check is";
+const FITS: &str = "law: a tidy table within the output, its length in its field";
+const SHORTER: &str = "law: a tidy table no longer than the table";
+const PAST: &str = "law: the output past the tidy table stays";
+const NO_TIDY: &str = "law: a refused tidy table leaves the output";
 const FRESH: &str = "law: a start leaves a fresh pool";
 const NO_START: &str = "law: a refused start leaves the words";
 const STEPS: &str = "law: a step makes one of rules 1 to 9";
@@ -138,15 +154,17 @@ const AROUND: &str = "law: memory around what is lent stays";
 const WRAPPED: &str = "law: the wrapper answers and writes the same";
 const OWNED: &str = "law: the wrapper's own pool answers and writes the same";
 
-const LAWS: [&str; 24] = [
-    UNUSED, PLACED, AT_BLOCK, AT_SPAWN, AT_MAIN, FUNCTION, ACCEPTED, REFUSED, FUNCTIONS, FRESH,
-    NO_START, STEPS, PROMOTES, NO_CHOICE, ALL_MADE, NONE_MADE, STOPPED, BEHIND, NO_VALUES,
-    UNANSWERED, ONLY_READ, AROUND, WRAPPED, OWNED,
+const LAWS: [&str; 30] = [
+    UNUSED, PLACED, AT_BLOCK, AT_SPAWN, AT_MAIN, FUNCTION, ACCEPTED, REFUSED, FUNCTIONS, TIDIED,
+    UNTIDIED, FITS, SHORTER, PAST, NO_TIDY, FRESH, NO_START, STEPS, PROMOTES, NO_CHOICE, ALL_MADE,
+    NONE_MADE, STOPPED, BEHIND, NO_VALUES, UNANSWERED, ONLY_READ, AROUND, WRAPPED, OWNED,
 ];
 
 /// What must occur: every law, and every answer of every call.
 pub fn events() -> Vec<String> {
-    let calls = [READ, CHECK, DEPTH, START, CHOOSE, WHICH, VALUES, SCHEDULE];
+    let calls = [
+        READ, CHECK, DEPTH, TIDY, START, CHOOSE, WHICH, VALUES, SCHEDULE,
+    ];
     LAWS.iter()
         .map(|law| law.to_string())
         .chain(calls.iter().flat_map(Call::events))
@@ -231,6 +249,27 @@ impl Laws {
             let functions = *table.get(5).unwrap_or(&0);
             self.assert(FUNCTIONS, number, value(number) <= functions.into());
         }
+    }
+
+    /// The number of a tidy table beside the one that the check answered, and
+    /// the output before and afterwards.
+    pub fn tidy(&mut self, table: &[u8], number: u64, checked: u64, out: &[u8], left: &[u8]) {
+        self.answer(&TIDY, table, number);
+        let tidied = is_given(number) || refused(number) == ROOM;
+        self.assert(TIDIED, number, is_given(checked) == tidied);
+        if !tidied {
+            self.assert(UNTIDIED, number, number == checked);
+        }
+        if !is_given(number) {
+            self.assert(NO_TIDY, number, left == out);
+            return;
+        }
+        let length = value(number);
+        let end = (length as usize).min(left.len());
+        let field = left.starts_with(&length.to_be_bytes());
+        self.assert(FITS, number, length as usize == end && field);
+        self.assert(SHORTER, number, end <= table.len());
+        self.assert(PAST, number, left[end..] == out[end..]);
     }
 
     /// The words before and afterwards.

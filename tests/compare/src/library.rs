@@ -165,6 +165,19 @@ impl Machine for Library {
         answer.map(|frames| frames as u8)
     }
 
+    fn tidy(&self, table: &[u8], out: &mut [u8]) -> Result<usize, Refusal> {
+        let (mut bytes, mut room) = (Lent::new(table, BYTE), Lent::new(out, BYTE));
+        let (t, o) = (bytes.pointer(), room.pointer());
+        let number = unsafe { raw::mezdaulk_tidy(t, table.len(), o, out.len()) };
+        let checked = unsafe { raw::mezdaulk_check(t, table.len()) };
+        self.laws().tidy(table, number, checked, out, room.left());
+        let around = bytes.guarded() && room.guarded();
+        self.laws().memory(number, bytes.left() == table, around);
+        let wrapped = lent::tidy(table, out).map(|length| length as u32);
+        let answer = self.answer(number, wrapped, out == room.left());
+        answer.map(|length| length as usize)
+    }
+
     fn start(&self, table: &[u8], pool: &mut [i32]) -> Result<(), Refusal> {
         let (mut bytes, mut words) = (Lent::new(table, BYTE), Lent::new(pool, WORD));
         let (t, p) = (bytes.pointer(), words.pointer());

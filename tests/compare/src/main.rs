@@ -1,8 +1,9 @@
 //! Puts random tables, pools and choices to every call of the library and of
 //! the second implementation and compares the answers, refusals with their
 //! places, and what is written; asserts the laws of every number answered and
-//! of the memory lent; and asserts demand 3 of the library, and what depths
-//! say, on random runs of accepted tables.
+//! of the memory lent; and asserts demand 3 of the library, what depths say,
+//! and that tidy tables answer as their tables, on random runs of accepted
+//! tables. Stored tables are tidied too.
 //!
 //! `compare SEED COUNT`; the last line is `compare: N passed, M failed`.
 
@@ -10,6 +11,7 @@ mod laws;
 mod lent;
 mod library;
 mod runs;
+mod twins;
 
 use library::Library;
 use oracle::encode::encode;
@@ -34,6 +36,7 @@ fn main() -> ExitCode {
     let (seed, count): (u64, u64) = (number(1), number(3000));
     let library = Library::default();
     let mut tally = Tally::new("compare", events());
+    twins::check_stored(&mut tally, &library);
     for round in 0..count {
         tally.round = round;
         let mut rng = Rng::of_round(seed, round);
@@ -42,7 +45,13 @@ fn main() -> ExitCode {
         compare_faults(&mut tally, &library, &mut rng, &program);
         runs::check_run(&mut tally, &library, &mut rng, &program);
         note_program(&mut tally, &program);
-        compare_calls(&mut tally, &library, &mut rng);
+        let calling = compare_calls(&mut tally, &library, &mut rng);
+        let one = if round.is_multiple_of(2) {
+            program
+        } else {
+            calling
+        };
+        twins::check_twins(&mut tally, &library, &mut rng, &one);
         library.count(&mut tally);
     }
     tally.finish()
@@ -55,6 +64,8 @@ fn events() -> Vec<String> {
     events.extend(calls::Kind::ALL.map(calls::Kind::event));
     events.extend(watch::SHAPES.map(String::from));
     events.extend(watch::EVENTS.map(String::from));
+    events.extend(watch::TIDIED.map(String::from));
+    events.extend(twins::EVENTS.map(String::from));
     events.extend(Source::ALL.map(|source| format!("scenario {source:?}")));
     events.extend(NOTES.map(String::from));
     let others = [FULL_SIZE, PAIR, LONG];
@@ -83,7 +94,7 @@ fn compare_scenario(tally: &mut Tally, library: &Library, rng: &mut Rng) {
 }
 
 /// A table rich in calls, as it is and with faults, and a run of it.
-fn compare_calls(tally: &mut Tally, library: &Library, rng: &mut Rng) {
+fn compare_calls(tally: &mut Tally, library: &Library, rng: &mut Rng) -> Program {
     let Calling {
         kind,
         program,
@@ -98,6 +109,7 @@ fn compare_calls(tally: &mut Tally, library: &Library, rng: &mut Rng) {
     });
     compare_faults(tally, library, rng, &program);
     runs::check_run(tally, library, rng, &program);
+    program
 }
 
 /// The calls on a table with one fault of each kind in turn, and with two.

@@ -8,5 +8,6 @@ pub mod pools;
 pub mod programs;
 pub mod scenario;
 pub mod schedules;
+pub mod twins;
 
 pub use scenario::{scenario, Scenario, Source, NOTES};

@@ -15,8 +15,10 @@ pub mod refusal;
 pub mod rng;
 pub mod rules;
 pub mod runner;
+pub mod stored;
 pub mod table;
 pub mod tally;
+pub mod tidy;
 pub mod watch;
 
 pub use check::check;
@@ -25,6 +27,7 @@ pub use pool::{Pool, POOL_WORDS};
 pub use refusal::{Place, Refusal};
 pub use rules::Rule;
 pub use table::{read, Program};
+pub use tidy::tidy;
 
 /// Writes the start of a table's main into 1,673 words; refusals 1 to 3 and 12.
 pub fn start(table: &[u8], pool: &mut [i32]) -> Result<(), Refusal> {

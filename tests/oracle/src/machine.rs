@@ -4,6 +4,7 @@ use crate::gen::schedules::Choice;
 use crate::gen::Scenario;
 use crate::refusal::Refusal;
 use crate::rules::{PROMOTE, STEP};
+use crate::tidy;
 
 /// The calls of an implementation. Rules are their numbers; "which thread can
 /// step" gives any one thread.
@@ -11,6 +12,8 @@ pub trait Machine {
     fn read(&self, table: &[u8]) -> Result<(), Refusal>;
     fn check(&self, table: &[u8]) -> Result<(), Refusal>;
     fn depth(&self, table: &[u8]) -> Result<u8, Refusal>;
+    /// The length of the tidy table, which is written at the start of `out`.
+    fn tidy(&self, table: &[u8], out: &mut [u8]) -> Result<usize, Refusal>;
     fn start(&self, table: &[u8], pool: &mut [i32]) -> Result<(), Refusal>;
     fn choose(&self, table: &[u8], pool: &mut [i32], kind: u64, thread: u64)
         -> Result<u8, Refusal>;
@@ -51,6 +54,10 @@ impl Machine for Oracle {
 
     fn depth(&self, table: &[u8]) -> Result<u8, Refusal> {
         crate::depth(table)
+    }
+
+    fn tidy(&self, table: &[u8], out: &mut [u8]) -> Result<usize, Refusal> {
+        crate::tidy(table, out)
     }
 
     fn start(&self, table: &[u8], pool: &mut [i32]) -> Result<(), Refusal> {
@@ -115,16 +122,52 @@ pub fn differences(machine: &dyn Machine, input: &Scenario) -> Vec<String> {
     found
 }
 
-/// Reading, checking and the depth.
+/// Reading, checking, the depth and the tidy table.
 pub fn tables_differ(machine: &dyn Machine, table: &[u8]) -> Vec<String> {
+    let checked = Oracle.check(table);
     [
         differs("read", machine.read(table), Oracle.read(table)),
-        differs("check", machine.check(table), Oracle.check(table)),
+        differs("check", machine.check(table), checked),
         differs("depth", machine.depth(table), Oracle.depth(table)),
+        tidy_differs(machine, table, checked),
     ]
     .into_iter()
     .flatten()
     .collect()
+}
+
+/// What stands in an output before it is lent.
+pub fn unwritten(room: usize) -> Vec<u8> {
+    (0..room).map(|at| (at % 251) as u8 ^ 0x5A).collect()
+}
+
+/// The tidy table in outputs of no byte, one less than it has, as many, and one
+/// more; where the check refuses, in an output as long as the table.
+fn tidy_differs(
+    machine: &dyn Machine,
+    table: &[u8],
+    checked: Result<(), Refusal>,
+) -> Option<String> {
+    let mut right = unwritten(table.len());
+    let due = checked.and_then(|()| Oracle.tidy(table, &mut right));
+    let rooms = match due {
+        Ok(length) => vec![0, length - 1, length, length + 1],
+        Err(_) => vec![table.len()],
+    };
+    rooms.into_iter().find_map(|room| {
+        let (due, right) = match due {
+            Ok(length) if length <= room => {
+                let rest = &unwritten(room)[length..];
+                (due, [&right[..length], rest].concat())
+            }
+            Ok(_) => (Err(Refusal::plain(tidy::ROOM)), unwritten(room)),
+            refused => (refused, unwritten(room)),
+        };
+        let what = format!("tidy into {room} bytes");
+        let mut given = unwritten(room);
+        let answer = machine.tidy(table, &mut given);
+        differs(&what, answer, due).or_else(|| differs(&what, given, right))
+    })
 }
 
 /// Says what was given and what is right, where they differ.

@@ -14,7 +14,7 @@ pub enum Place {
 /// The block number given for a fault that lies in no block.
 pub const NO_BLOCK: usize = 255;
 
-/// A refusal: its number (1 to 22) and its place.
+/// A refusal: its number (1 to 23) and its place.
 #[derive(Clone, Copy, Debug, PartialEq, Eq, Hash)]
 pub struct Refusal {
     pub number: u8,

@@ -5,7 +5,10 @@ use crate::gen::programs::targets_mut;
 use crate::graph::{behind, cyclic, Graph};
 use crate::pool::{Pool, Thread, MAX_CALLS, MAX_FRAMES, MAX_THREADS};
 use crate::rules::{ended, transfer};
-use crate::table::{Function, Program, Transfer, MAX_NESTING};
+use crate::table::{
+    Function, Name, Program, Transfer, MAX_BLOCKS, MAX_FUNCTIONS, MAX_NESTING, MAX_SPAWNS,
+};
+use crate::tidy::Numbering;
 
 /// The shapes of programs, by name.
 pub const SHAPES: [&str; 5] = [FUNCTIONS, DEPTH, LOOP, RECURSION, DEAD];
@@ -64,6 +67,76 @@ fn mentions(program: &Program) -> Graph {
         mentioned.extend(function.spawns.iter().map(|s| usize::from(s.function)));
     }
     graph
+}
+
+/// What tidying does to a program, by name.
+pub const TIDIED: [&str; 12] = [
+    SAME,
+    FUNCTION_GONE,
+    BLOCK_GONE,
+    SPAWN_GONE,
+    FUNCTION_MOVED,
+    BLOCK_MOVED,
+    SPAWN_MOVED,
+    ALIKE,
+    UNCALLED,
+    ALL_FUNCTIONS,
+    ALL_BLOCKS,
+    ALL_SPAWNS,
+];
+
+const SAME: &str = "tidy: nothing changes";
+const FUNCTION_GONE: &str = "tidy: a function goes";
+const BLOCK_GONE: &str = "tidy: a block of a kept function goes";
+const SPAWN_GONE: &str = "tidy: a spawn call of a kept function goes";
+const FUNCTION_MOVED: &str = "tidy: functions change places";
+const BLOCK_MOVED: &str = "tidy: blocks change places";
+const SPAWN_MOVED: &str = "tidy: spawn calls change places";
+const ALIKE: &str = "tidy: two spawn calls that are alike stay";
+const UNCALLED: &str = "tidy: a function stays by a spawn call alone";
+const ALL_FUNCTIONS: &str = "tidy: 16 functions stay";
+const ALL_BLOCKS: &str = "tidy: 32 blocks stay";
+const ALL_SPAWNS: &str = "tidy: 8 spawn calls stay";
+
+/// What the new numbers of a program do to it.
+pub fn tidied(program: &Program, numbering: &Numbering) -> Vec<&'static str> {
+    let tidy = numbering.program(program);
+    let functions = numbering.functions();
+    let olds: Vec<&Function> = functions
+        .iter()
+        .filter_map(|&f| program.function(f))
+        .collect();
+    let pairs = || olds.iter().zip(&tidy.functions);
+    let moved = |order: &[Name]| !order.is_sorted();
+    let any_moved = |order: fn(&Numbering, Name) -> Vec<Name>| {
+        functions.iter().any(|&f| moved(&order(numbering, f)))
+    };
+    let called: Vec<usize> = depth::calls(&tidy).into_iter().flatten().collect();
+    let all = |count: usize, most: u8| count == usize::from(most);
+    let holds = [
+        tidy == *program,
+        tidy.functions.len() < program.functions.len(),
+        pairs().any(|(old, new)| new.blocks.len() < old.blocks.len()),
+        pairs().any(|(old, new)| new.spawns.len() < old.spawns.len()),
+        moved(&functions),
+        any_moved(Numbering::blocks),
+        any_moved(Numbering::spawns),
+        tidy.functions.iter().any(alike),
+        (1..tidy.functions.len()).any(|f| !called.contains(&f)),
+        all(tidy.functions.len(), MAX_FUNCTIONS),
+        pairs().any(|(_, new)| all(new.blocks.len(), MAX_BLOCKS)),
+        pairs().any(|(_, new)| all(new.spawns.len(), MAX_SPAWNS)),
+    ];
+    let found = TIDIED.into_iter().zip(holds);
+    found
+        .filter_map(|(event, held)| held.then_some(event))
+        .collect()
+}
+
+/// Whether two spawn calls of a function are alike.
+fn alike(function: &Function) -> bool {
+    let spawns = &function.spawns;
+    (1..spawns.len()).any(|k| spawns[..k].contains(&spawns[k]))
 }
 
 /// What pools reach, by name.

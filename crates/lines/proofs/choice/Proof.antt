@@ -1,7 +1,7 @@
 -- `lines::choice`: five texts one behind the other.
 use borrow.Author.Needs.{needs}
 use Rattle.model.specs.Output.{choiceLine}
-use Rattle.text.proofs.Laws.{then}
+use Rattle.puts.proofs.Laws.{then}
 use Rattle.lines.proofs.choice.Statement.{statement}
 use Rattle.lines.proofs.choice.Tie as tie
 

@@ -6,8 +6,8 @@ use mir.Facts.{toZ-ofZ}
 use borrow.Author.Needs.{needs, sfits-of}
 use lib.ListN.{length, take}
 use Rattle.model.specs.Text.{signedPart}
-use Rattle.text.specs.Puts.{Puts}
-use Rattle.text.proofs.Laws.{same}
+use Rattle.puts.specs.Puts.{Puts}
+use Rattle.puts.proofs.Laws.{same}
 use Rattle.lines.proofs.Spelt.{spelt, nothing, turned, counted, all-turned}
 use Rattle.lines.proofs.values.Statement.{statement}
 use Rattle.lines.proofs.values.Tie as tie

@@ -1,7 +1,7 @@
 -- `text::decimal`: the digits that `io::decimal` gives are the number's decimal.
 use borrow.Author.Needs.{needs}
 use mathlib.Core.Path.{_∙_}
-use Rattle.text.proofs.Laws.{same}
+use Rattle.puts.proofs.Laws.{same}
 use Rattle.text.proofs.Digits.{tied}
 use Rattle.text.proofs.decimal.Statement.{statement}
 use Rattle.text.proofs.decimal.Tie as tie

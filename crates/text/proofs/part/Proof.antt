@@ -1,7 +1,7 @@
 -- `text::part`: a space, and then the decimal.
 use borrow.Author.Needs.{needs}
 use Rattle.model.specs.Text.{part}
-use Rattle.text.proofs.Laws.{then}
+use Rattle.puts.proofs.Laws.{then}
 use Rattle.text.proofs.part.Statement.{statement}
 use Rattle.text.proofs.part.Tie as tie
 

@@ -4,7 +4,7 @@ use borrow.Author.Needs.{needs}
 use mir.Syntax.{w32}
 use mir.Val.{ofZ}
 use mir.Facts.{toZ-ofZ}
-use Rattle.text.proofs.Laws.{same, then}
+use Rattle.puts.proofs.Laws.{same, then}
 use Rattle.text.proofs.Digits.{positive, negative}
 use Rattle.text.proofs.signed_part.Statement.{statement}
 use Rattle.text.proofs.signed_part.Tie as tie

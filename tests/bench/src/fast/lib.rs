@@ -8,10 +8,12 @@ mod machine;
 mod places;
 mod read;
 mod rules;
+mod tidy;
 
 pub use check::check;
 pub use depth::depth;
 pub use machine::Fast;
+pub use tidy::tidy;
 
 use judge::is_pool;
 use places::Places;

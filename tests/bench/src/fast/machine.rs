@@ -30,6 +30,10 @@ impl Machine for Fast {
         given(super::depth(table))
     }
 
+    fn tidy(&self, table: &[u8], out: &mut [u8]) -> Result<usize, oracle::Refusal> {
+        given(super::tidy(table, out))
+    }
+
     fn start(&self, table: &[u8], pool: &mut [i32]) -> Result<(), oracle::Refusal> {
         given(super::start(table, pool))
     }

@@ -46,6 +46,15 @@ impl Places {
         }
     }
 
+    /// Where a block of a table of some length ends: at the next block or
+    /// function, or with the table.
+    #[inline]
+    pub fn end_of_block(&self, f: usize, b: usize, length: usize) -> usize {
+        self.block(f, b + 1)
+            .or_else(|| self.function(f + 1))
+            .unwrap_or(length)
+    }
+
     #[inline]
     pub fn block(&self, f: usize, b: usize) -> Option<usize> {
         if f < 16 && b < 32 {

@@ -156,7 +156,7 @@ impl<'a> Code<'a> {
     }
 
     #[inline(always)]
-    fn expression_end(self, at: usize) -> usize {
+    pub fn expression_end(self, at: usize) -> usize {
         let end = self.atom_end(at + 1);
         if self.t[at] < 2 {
             end

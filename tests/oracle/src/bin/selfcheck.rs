@@ -6,13 +6,15 @@ use oracle::encode::encode;
 use oracle::gen::calls::{self, Calling};
 use oracle::gen::faults::{self, Kind, Planted};
 use oracle::gen::schedules::{guided_choice, Choice, Policy};
+use oracle::gen::twins::twin;
 use oracle::gen::{bytes, programs, scenario, Scenario};
-use oracle::machine::{differences, Oracle};
+use oracle::machine::{differences, unwritten, Oracle};
 use oracle::pool::{Pool, MAX_FRAMES};
 use oracle::rng::Rng;
 use oracle::rules::{self, ended, Rule, PROMOTE, STEP};
 use oracle::table::{Program, MAX_FUNCTIONS, TABLE_MAX};
 use oracle::tally::Tally;
+use oracle::tidy::{is_tidy, tidied, Numbering, ROOM};
 use oracle::watch::{self, join, join_event};
 use oracle::{Refusal, POOL_WORDS};
 use std::env;
@@ -35,12 +37,13 @@ fn main() -> ExitCode {
     tally.finish()
 }
 
-/// One round: an accepted table and its run, planted faults, spoiled bytes,
-/// scenarios, and a table rich in calls, all from the seed and the round's
-/// number.
+/// One round: an accepted table, its tidy table and its run, planted faults,
+/// spoiled bytes, scenarios, and a table rich in calls, all from the seed and
+/// the round's number.
 fn check_round(tally: &mut Tally, rng: &mut Rng) {
     let program = programs::accepted(rng);
     check_accepted(tally, &program, None);
+    check_tidy(tally, rng, &program);
     check_run(tally, rng, &program);
     for _ in 0..4 {
         check_one_fault(tally, rng, &program);
@@ -58,7 +61,8 @@ fn check_round(tally: &mut Tally, rng: &mut Rng) {
     check_calls(tally, rng);
 }
 
-/// A table rich in calls: its depth, a run, and faults that come before 22.
+/// A table rich in calls: its depth, its tidy table, a run, and faults that
+/// come before 22.
 fn check_calls(tally: &mut Tally, rng: &mut Rng) {
     let Calling {
         kind,
@@ -67,6 +71,7 @@ fn check_calls(tally: &mut Tally, rng: &mut Rng) {
     } = calls::calling(rng);
     tally.event(&kind.event());
     check_accepted(tally, &program, known);
+    check_tidy(tally, rng, &program);
     check_run(tally, rng, &program);
     check_one_fault(tally, rng, &program);
     check_bytes(tally, rng, &program);
@@ -79,6 +84,7 @@ fn events() -> Vec<String> {
     events.extend(calls::Kind::ALL.map(calls::Kind::event));
     events.extend((1..=MAX_FUNCTIONS).map(depth_event));
     events.extend(watch::EVENTS.map(String::from));
+    events.extend(watch::TIDIED.map(String::from));
     events.extend(
         [
             "run that returned",
@@ -145,6 +151,73 @@ fn check_depth(tally: &mut Tally, table: &[u8]) {
     }
 }
 
+/// The tidy table of a well-formed program: it is accepted, no longer than the
+/// table, in order and its own tidy table; and two more programs of the same
+/// job have it too.
+fn check_tidy(tally: &mut Tally, rng: &mut Rng, program: &Program) {
+    let table = encode(program);
+    let tidy = tidied(program);
+    let right = encode(&tidy);
+    check_rooms(tally, &table, &right);
+    check_rooms(tally, &right, &right);
+    let checked = oracle::check(&right);
+    tally.expect(checked.is_ok(), || format!("tidy, and {checked:?}"));
+    tally.expect(right.len() <= table.len(), || {
+        format!("{} bytes tidied to {}", table.len(), right.len())
+    });
+    let (deep, less) = (depth_of(program), depth_of(&tidy));
+    tally.expect(deep.is_none() || less.is_some() && less <= deep, || {
+        format!("the depth {deep:?} is {less:?} once tidied")
+    });
+    let in_order = is_tidy(&tidy) && is_tidy(program) == (*program == tidy);
+    tally.expect(in_order, || "a tidy program out of order".to_string());
+    for event in watch::tidied(program, &Numbering::of(program)) {
+        tally.event(event);
+    }
+    for _ in 0..2 {
+        let twin = twin(rng, program);
+        let checked = oracle::check(&encode(&twin));
+        tally.expect(checked.is_ok(), || format!("a twin, and {checked:?}"));
+        let other = tidied(&twin);
+        tally.expect(other == tidy, || {
+            format!("{program:?} and {twin:?} are tidied apart")
+        });
+    }
+}
+
+/// What an output of any length gets: 23 and nothing written, or the tidy table
+/// and the bytes behind it as they were.
+fn check_rooms(tally: &mut Tally, table: &[u8], tidy: &[u8]) {
+    let length = tidy.len();
+    for room in [0, length - 1, length, length + 1, table.len()] {
+        let mut out = unwritten(room);
+        let answer = oracle::tidy(table, &mut out);
+        let (due, left) = if room < length {
+            (Err(Refusal::plain(ROOM)), unwritten(room))
+        } else {
+            (Ok(length), [tidy, &unwritten(room)[length..]].concat())
+        };
+        tally.expect(answer == due && out == left, || {
+            format!("tidied into {room} bytes: {answer:?}, {due:?} is due")
+        });
+        if let Err(refusal) = answer {
+            tally.refusal(refusal.number);
+        }
+    }
+}
+
+/// The tidy table of any bytes: a length or 23 where the check accepts, else
+/// the check's own refusal and nothing written.
+fn check_untidy(tally: &mut Tally, table: &[u8]) {
+    let mut out = unwritten(table.len());
+    let answer = oracle::tidy(table, &mut out);
+    let fits = match oracle::check(table) {
+        Ok(()) => answer.is_ok(),
+        refused => answer.err() == refused.err() && out == unwritten(table.len()),
+    };
+    tally.expect(fits, || format!("tidied: {answer:?}"));
+}
+
 /// The most frames that a thread has.
 fn most_frames(pool: &Pool) -> usize {
     let threads = pool.threads();
@@ -178,8 +251,45 @@ fn check_room(tally: &mut Tally, depth: Option<u8>, answer: &Result<Rule, u8>, p
     }
 }
 
+/// The run that the tidy program makes of the same choices: the pool that it
+/// has, and the numbers that lead there.
+struct Beside {
+    tidy: Program,
+    numbering: Numbering,
+    pool: Pool,
+}
+
+impl Beside {
+    fn new(program: &Program) -> Self {
+        Beside {
+            tidy: tidied(program),
+            numbering: Numbering::of(program),
+            pool: Pool::start(),
+        }
+    }
+
+    /// The same choice has the same answer, and leaves the same pool under the
+    /// new numbers, with the same values of main.
+    fn check(
+        &mut self,
+        tally: &mut Tally,
+        program: &Program,
+        pool: &Pool,
+        choice: Choice,
+        due: &Result<Rule, u8>,
+    ) {
+        let answer = rules::choose(&self.tidy, &mut self.pool, choice.0, choice.1);
+        let values = ended(&self.tidy, &self.pool.root);
+        let same = answer == *due && values == ended(program, &pool.root);
+        tally.expect(same && self.numbering.pool(pool) == self.pool, || {
+            format!("{choice:?}: {answer:?} once tidied, not {due:?}")
+        });
+    }
+}
+
 /// A random run of an accepted table, made and refused choices: the words of
-/// demand 3 hold before and after every choice, and what the depth says.
+/// demand 3 hold before and after every choice, and what the depth says; the
+/// tidy program answers the same.
 fn check_run(tally: &mut Tally, rng: &mut Rng, program: &Program) {
     let table = encode(program);
     let depth = depth_of(program);
@@ -187,6 +297,7 @@ fn check_run(tally: &mut Tally, rng: &mut Rng, program: &Program) {
     let started = oracle::start(&table, &mut words);
     tally.expect(started.is_ok(), || format!("no start: {started:?}"));
     let mut pool = Pool::start();
+    let mut beside = Beside::new(program);
     let policy = Policy::random(rng);
     check_progress(tally, program, depth, &pool);
     let mut left = rng.one_of([20, 100, 400]);
@@ -198,6 +309,7 @@ fn check_run(tally: &mut Tally, rng: &mut Rng, program: &Program) {
         let answer = rules::choose(program, &mut pool, choice.0, choice.1);
         tally.answer(answer.map(Rule::number));
         check_answer(tally, program, &before, &pool, choice, &answer);
+        beside.check(tally, program, &pool, choice, &answer);
         tally.expect(answer != Err(19), || format!("{choice:?} is stuck"));
         check_room(tally, depth, &answer, &pool);
         check_progress(tally, program, depth, &pool);
@@ -366,6 +478,7 @@ fn expect_fault(tally: &mut Tally, program: &Program, planted: &[Planted]) {
     let found = planted.iter().any(|fault| Some(fault.refusal) == refusal);
     tally.expect(found, || format!("{planted:?} planted, {refusal:?} given"));
     check_depth(tally, &table);
+    check_untidy(tally, &table);
 }
 
 /// Spoiled bytes get the refusal known beforehand.
@@ -383,11 +496,13 @@ fn check_bytes(tally: &mut Tally, rng: &mut Rng, program: &Program) {
         format!("read gives {refusal:?}, check {checked:?}")
     });
     check_depth(tally, &table);
+    check_untidy(tally, &table);
 }
 
 /// All calls on one scenario agree with each other and keep their promises.
 fn check_scenario(tally: &mut Tally, input: &Scenario) {
     check_depth(tally, &input.table);
+    check_untidy(tally, &input.table);
     check_start(tally, input);
     match decode(input) {
         Err(refusal) => check_undecoded(tally, input, refusal),

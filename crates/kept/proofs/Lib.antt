@@ -1,0 +1,5 @@
+pub mod Arrays
+pub mod Names
+pub mod Loops
+pub mod Growing
+pub mod Ends

@@ -1,0 +1,198 @@
+-- Words that hold a pool of one table, and words that hold the same pool of the other under its new numbers: the start leaves such words,
+-- every call keeps them so, and every call answers the same for both.
+use Prim.Native.Nat.{ℕ}
+use mathlib.Core.Path.{_≡_, refl, sym, _∙_, ap, ap₂}
+use mathlib.Core.Bool.{true}
+use mathlib.Core.Option.{Option, none, some}
+use mathlib.Core.List.{List, [], _∷_, _++_, map-append}
+use lib.IntN.{ℤ}
+use lib.ListN.{length}
+use Rattle.model.specs.Answers.{Answer, with}
+use Rattle.model.specs.Syntax.{Program}
+use Rattle.model.specs.Pool.{Pool, poolWords, wordsOf, begin, isPool, started}
+use Rattle.model.specs.Rules.{Result, choice}
+use Rattle.model.specs.Calls as Calls
+use Rattle.model.specs.Calls.{Choice, Lent, lent, read, made, run, reported, scheduled, Which}
+use Rattle.model.proofs.Facts.{refused-given}
+use Rattle.model.proofs.Guarantees.{read-limits}
+use Rattle.model.proofs.Words.{lent-given, lent-words, started-pool}
+use Rattle.model.proofs.Kept.{choice-kept, choose-lent}
+use Rattle.model.proofs.Schedules.{run-kept}
+use Rattle.safety.specs.NeverJams.{Call, Put, left, finally, whileGiven, ofSchedule, ofCall, choices}
+use Rattle.safety.proofs.Theorem.{starts}
+use Rattle.numbering.specs.Renumbers.{Numbering, Renumbers, renamedFrame, renamedThread, renamedPool}
+use Rattle.numbering.specs.Means.{Alike, answers, Same}
+use Rattle.numbering.proofs.SimulationStates.{KeptPool, Follows}
+use Rattle.numbering.proofs.SimulationChoices.{renamedResult, KeptResult, renamedRan, KeptRan, Chooses, choice-follows}
+use Rattle.numbering.proofs.SimulationChoices.{values-follow, run-follows}
+
+-- the pool at the start stays as it is, and has kept things alone
+started-renamed : (R : Numbering) (P Q : Program) → Renumbers R P Q → renamedPool R started ≡ started
+unfolding started begin renamedThread renamedFrame
+started-renamed R P Q n = rw (n .main, n .copies 0 (n .mainKept) .entry)
+
+started-kept : (R : Numbering) (P Q : Program) → Renumbers R P Q → KeptPool R started
+unfolding started begin
+started-kept R P Q n =
+    ((record { function = n .mainKept; block = n .copies 0 (n .mainKept) .entryKept; calls = tt }, tt), tt)
+
+-- which thread can step is the same question where every choice has the same answer and both words are pools
+which-same : (s t : List ℕ) (ws ws′ : List ℤ) → ((kind i : ℕ) → Calls.choose s ws kind i .answer ≡ Calls.choose t ws′ kind i .answer) →
+    {l l′ : Lent} → lent s ws ≡ Answer.given l → lent t ws′ ≡ Answer.given l′ → (a : Answer (Option ℕ)) → Which s ws a → Which t ws′ a
+unfolding Which
+which-same s t ws ws′ e m n (Answer.given (some i)) w = (w .0, sym (e 0 i) ∙ w .1)
+which-same s t ws ws′ e m n (Answer.given none) w = ((_, n), λ i x. w .1 i (x .0, e 0 i ∙ x .1))
+which-same s t ws ws′ e m n (Answer.refused r) w = refused-given (sym w ∙ m)
+
+-- words that hold a pool of s, with kept things alone, and words that hold it of t under the new numbers
+pub record Hold (s t : List ℕ) (P Q : Program) (R : Numbering) (ws ws′ : List ℤ) : Type 0 where
+  pub pool : Pool
+  pub kept : KeptPool R pool
+  pub first : lent s ws ≡ Answer.given (record { table = P; pool = pool })
+  pub second : lent t ws′ ≡ Answer.given (record { table = Q; pool = renamedPool R pool })
+
+-- two tables of one program
+module _ (s t : List ℕ) (P Q : Program) (R : Numbering) (r : read s ≡ Answer.given P) (r′ : read t ≡ Answer.given Q)
+    (n : Renumbers R P Q) where
+  abbrev Held : List ℤ → List ℤ → Type 0
+  Held ws ws′ = Hold s t P Q R ws ws′
+
+  -- the words of valid pools
+  hold-words : (p : Pool) → KeptPool R p → isPool P p ≡ true → isPool Q (renamedPool R p) ≡ true →
+      Held (wordsOf p) (wordsOf (renamedPool R p))
+  hold-words p h v v′ =
+      record { pool = p; kept = h; first = lent-words s P p r v; second = lent-words t Q (renamedPool R p) r′ v′ }
+
+  hold-start : (ws ws′ : List ℤ) → length ws ≡ poolWords → length ws′ ≡ poolWords →
+      Held (Calls.start s ws .after) (Calls.start t ws′ .after)
+  hold-start ws ws′ l l′ =
+      rw (starts s ws r l, starts t ws′ r′ l′)
+      (record {
+        pool = started;
+        kept = started-kept R P Q n;
+        first = lent-words s P started r (started-pool P (read-limits s P r));
+        second = rw (started-renamed R P Q n) (lent-words t Q started r′ (started-pool Q (read-limits t Q r′)));
+      })
+
+  module _ {ws ws′ : List ℤ} (g : Held ws ws′) where
+    valid : isPool P (g .pool) ≡ true
+    valid = lent-given s ws _ (g .first) .valid
+
+    valid′ : isPool Q (renamedPool R (g .pool)) ≡ true
+    valid′ = lent-given t ws′ _ (g .second) .valid
+
+    -- a choice
+    made-same : (x : Result) → made ws x .answer ≡ made ws′ (renamedResult R x) .answer
+    unfolding made renamedResult
+    made-same (Result.made rule p) = refl
+    made-same (Result.refused m) = refl
+
+    hold-answer : (kind i : ℕ) → Calls.choose s ws kind i .answer ≡ Calls.choose t ws′ kind i .answer
+    hold-answer kind i =
+        rw (
+          choose-lent s ws kind i (g .first),
+          choose-lent t ws′ kind i (g .second),
+          choice-follows (n .copies) (g .pool) kind i (g .kept) .same,
+        )
+        (made-same (choice P (g .pool) kind i))
+
+    hold-after : (kind i : ℕ) → Held (Calls.choose s ws kind i .after) (Calls.choose t ws′ kind i .after)
+    unfolding made renamedResult
+    hold-after kind i =
+        rw (choose-lent s ws kind i (g .first), choose-lent t ws′ kind i (g .second), f .same)
+        (go (choice P (g .pool) kind i) refl (f .kept))
+      where
+        f : Chooses R (choice P (g .pool) kind i) (choice Q (renamedPool R (g .pool)) kind i)
+        f = choice-follows (n .copies) (g .pool) kind i (g .kept)
+
+        go : (x : Result) → choice P (g .pool) kind i ≡ x → KeptResult R x → Held (made ws x .after) (made ws′ (renamedResult R x) .after)
+        go (Result.made rule p) e h =
+            hold-words p h (choice-kept P (read-limits s P r) (g .pool) p kind i rule valid e)
+            (choice-kept Q (read-limits t Q r′) (renamedPool R (g .pool)) (renamedPool R p) kind i rule valid′
+            (f .same ∙ ap (renamedResult R) e))
+        go (Result.refused m) e h = g
+
+    -- a schedule
+    hold-ran : (cs : List Choice) → Follows (renamedRan R) (KeptRan R) (run P (g .pool) cs) (run Q (renamedPool R (g .pool)) cs)
+    hold-ran cs = run-follows (n .copies) (g .pool) cs (g .kept)
+
+    hold-run : (cs : List Choice) → Held (Calls.schedule s ws cs .after) (Calls.schedule t ws′ cs .after)
+    unfolding Calls.schedule scheduled reported renamedRan
+    hold-run cs =
+        let f = hold-ran cs in
+        let v′ = run-kept Q (read-limits t Q r′) (renamedPool R (g .pool)) cs valid′ in
+        rw (g .first, g .second, f .same)
+        (hold-words (run P (g .pool) cs .pool) (f .kept) (run-kept P (read-limits s P r) (g .pool) cs valid) (rw (f .same) at v′))
+
+    hold-left : (c : Call) → Held (left s ws c) (left t ws′ c)
+    hold-left (Call.choose kind i) = hold-after kind i
+    hold-left (Call.schedule cs) = hold-run cs
+    hold-left Call.which = g
+    hold-left Call.values = g
+
+    -- whatever is put next
+    hold-alike : Alike s t ws ws′
+    unfolding Calls.schedule scheduled reported renamedRan Calls.values with
+    hold-alike =
+        record {
+          choose = hold-answer;
+          schedule = λ cs. rw (g .first, g .second, hold-ran cs .same);
+          made = λ cs. rw (g .first, g .second, hold-ran cs .same);
+          values = rw (g .first, g .second, values-follow (n .copies) (g .pool) (g .kept));
+          which = which-same s t ws ws′ hold-answer (g .first) (g .second);
+          which-back = which-same t s ws′ ws (λ kind i. sym (hold-answer kind i)) (g .second) (g .first);
+        }
+
+  hold-finally : {ws ws′ : List ℤ} (cs : List Call) → Held ws ws′ → Held (finally s ws cs) (finally t ws′ cs)
+  unfolding finally
+  hold-finally [] g = g
+  hold-finally (c ∷ cs) g = hold-finally cs (hold-left g c)
+
+  -- the answers of the choices in a list of calls
+  while-answers : (a : Answer ℕ) (ps qs : List Put) → answers s ps ≡ answers t qs →
+      answers s (whileGiven a ps) ≡ answers t (whileGiven a qs)
+  unfolding whileGiven
+  while-answers (Answer.given rule) ps qs e = e
+  while-answers (Answer.refused q) ps qs e = refl
+
+  schedule-answers : {ws ws′ : List ℤ} (cs : List Choice) → Held ws ws′ → answers s (ofSchedule s ws cs) ≡ answers t (ofSchedule t ws′ cs)
+  unfolding ofSchedule
+  schedule-answers [] g = refl
+  schedule-answers {ws} {ws′} (c ∷ cs) g =
+      let e = hold-answer g (c .kind) (c .thread) in
+      let h = hold-after g (c .kind) (c .thread) in
+      rw e (ap {B = List (Answer ℕ)} (λ as′. Calls.choose t ws′ (c .kind) (c .thread) .answer ∷ as′)
+      (while-answers (Calls.choose t ws′ (c .kind) (c .thread) .answer) _ _ (schedule-answers cs h)))
+
+  call-answers : {ws ws′ : List ℤ} (c : Call) → Held ws ws′ → answers s (ofCall s ws c) ≡ answers t (ofCall t ws′ c)
+  unfolding ofCall
+  call-answers (Call.choose kind i) g = rw (hold-answer g kind i)
+  call-answers (Call.schedule cs) g = schedule-answers cs g
+  call-answers Call.which g = refl
+  call-answers Call.values g = refl
+
+  calls-answers : {ws ws′ : List ℤ} (cs : List Call) → Held ws ws′ → answers s (choices s ws cs) ≡ answers t (choices t ws′ cs)
+  unfolding choices
+  calls-answers [] g = refl
+  calls-answers {ws} {ws′} (c ∷ cs) g =
+      map-append _ (ofCall s ws c) (choices s (left s ws c) cs) ∙
+      ap₂ {C = List (Answer ℕ)} _++_ (call-answers c g) (calls-answers cs (hold-left g c)) ∙
+      sym (map-append _ (ofCall t ws′ c) (choices t (left t ws′ c) cs))
+
+-- after every list of calls from fresh pools, the two words hold one pool, under the one numbering and the other
+pub always-hold : (s t : List ℕ) (P Q : Program) (R : Numbering) → read s ≡ Answer.given P → read t ≡ Answer.given Q → Renumbers R P Q →
+    (ws ws′ : List ℤ) → length ws ≡ poolWords → length ws′ ≡ poolWords → (cs : List Call) →
+    Hold s t P Q R (finally s (Calls.start s ws .after) cs) (finally t (Calls.start t ws′ .after) cs)
+always-hold s t P Q R r r′ n ws ws′ l l′ cs = hold-finally s t P Q R r r′ n cs (hold-start s t P Q R r r′ n ws ws′ l l′)
+
+-- no list of calls tells two tables of one program apart
+pub same : (s t : List ℕ) (P Q : Program) (R : Numbering) → read s ≡ Answer.given P → read t ≡ Answer.given Q → Renumbers R P Q →
+    Same R s t
+same s t P Q R r r′ n =
+    record {
+      rules = λ ws ws′ l l′ cs. calls-answers s t P Q R r r′ n cs (hold-start s t P Q R r r′ n ws ws′ l l′);
+      next = λ ws ws′ l l′ cs. hold-alike s t P Q R r r′ n (always-hold s t P Q R r r′ n ws ws′ l l′ cs);
+      pools = λ ws ws′ l l′ cs.
+          let g = always-hold s t P Q R r r′ n ws ws′ l l′ cs in
+          record { old = _; new = _; first = g .first; second = g .second; pools = refl };
+    }

@@ -1,0 +1,8 @@
+pub mod Left
+pub mod Putting
+pub mod Renaming
+pub mod Agreeing
+pub mod Functions
+pub mod Lists
+pub mod Placed
+pub mod Tables

@@ -1,0 +1,69 @@
+//! What is stored beside this implementation: tables with their tidy tables,
+//! and the tables of the stored cases.
+
+use std::fs;
+use std::path::{Path, PathBuf};
+
+/// A table and its tidy table.
+#[derive(Clone, Debug, PartialEq, Eq)]
+pub struct Row {
+    pub name: String,
+    pub table: Vec<u8>,
+    pub tidy: Vec<u8>,
+}
+
+/// A file or folder of the tests.
+fn stored(name: &str) -> PathBuf {
+    Path::new(env!("CARGO_MANIFEST_DIR")).join("..").join(name)
+}
+
+/// The rows of `tests/tidy/rows.txt`.
+pub fn tidy_rows() -> Vec<Row> {
+    let text = fs::read_to_string(stored("tidy/rows.txt")).expect("the rows are there");
+    let lines = text.lines().filter(|line| !line.starts_with('#'));
+    let text: String = lines.flat_map(|line| [line, "\n"]).collect();
+    text.split("row ").skip(1).map(row).collect()
+}
+
+fn row(text: &str) -> Row {
+    let (name, rest) = text.split_once("\ntable\n").expect("a row has a table");
+    let (table, tidy) = rest.split_once("\ntidy\n").expect("a row has a tidy table");
+    Row {
+        name: name.to_string(),
+        table: bytes(table),
+        tidy: bytes(tidy),
+    }
+}
+
+/// The bytes of some hexadecimal digits.
+fn bytes(text: &str) -> Vec<u8> {
+    let digits: Vec<u8> = text
+        .chars()
+        .filter(|c| !c.is_whitespace())
+        .map(|c| c.to_digit(16).expect("a digit") as u8)
+        .collect();
+    assert!(digits.len().is_multiple_of(2), "two digits are a byte");
+    digits.chunks(2).map(|two| 16 * two[0] + two[1]).collect()
+}
+
+/// The tables that the inputs of `tests/cases` begin with: as many bytes as the
+/// length field says, or all.
+pub fn case_tables() -> Vec<Vec<u8>> {
+    let folder = fs::read_dir(stored("cases")).expect("the cases are there");
+    let mut paths: Vec<PathBuf> = folder
+        .map(|entry| entry.expect("an entry").path())
+        .filter(|path| path.extension().is_some_and(|end| end == "in"))
+        .collect();
+    paths.sort();
+    paths
+        .iter()
+        .map(|path| front(fs::read(path).expect("a case is there")))
+        .collect()
+}
+
+fn front(mut input: Vec<u8>) -> Vec<u8> {
+    if let Some(field) = input.first_chunk() {
+        input.truncate(u32::from_be_bytes(*field) as usize);
+    }
+    input
+}
