@@ -9,6 +9,15 @@ ghost use Rattle.code.specs.Bytes.{byteAt, past, halfAt, wordAt, operand
 ghost use Rattle.code.specs.Code.{most, countAt, listEnd, atomEnd, expressionEnd, statementEnd, statementsEnd, openingAt};
 ghost use Rattle.code.specs.Code.{headEnd, spawnEnd, transferEndOf, transferEnd};
 
+// Where a table has its number of functions, behind its length and its version; and the version.
+pub struct Table {}
+
+impl Table {
+    pub const FUNCTIONS_AT: usize = 5;
+
+    pub const VERSION: u8 = 1;
+}
+
 // The byte at an offset.
 pub fn byte(s: &[u8], at: usize) -> u8
     ensures { λ r. ⌜ r ≡ byteAt (now (s .entry)) at ⌝ }

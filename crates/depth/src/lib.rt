@@ -3,6 +3,7 @@
 use answers::Answer;
 use answers::No;
 use answers::Refusal;
+use code::Table;
 use places::Layout;
 use places::Place;
 use places::Places;
@@ -34,13 +35,11 @@ pub enum Needed {
     Refused(Refusal),
 }
 
-// The kind of a call among transfers, and where a table has its number of functions.
-struct Table {}
+// The kind of a call among transfers.
+struct Kind {}
 
-impl Table {
+impl Kind {
     const CALL: u8 = 2;
-
-    const FUNCTIONS_AT: usize = 5;
 }
 
 // What the transfer of block b of function f calls.
@@ -51,7 +50,7 @@ fn call_of(s: &[u8], places: &Places, f: usize, b: usize) -> Called
         Place::Nowhere => Called::NoBlock,
         Place::At(at) => {
             let end = code::statements_end(s, code::after(at, 1), code::byte(s, at));
-            if code::byte(s, end) == Table::CALL {
+            if code::byte(s, end) == Kind::CALL {
                 Called::Function(code::byte(s, code::after(end, 1)))
             } else {
                 Called::Nothing

@@ -35,7 +35,7 @@ use Rattle.model.specs.Calls.{Lent, lent, check, Choice, Steps, Which}
 use Rattle.model.proofs.Facts.{refused-given, none-some, and-left, and-right, leb-true, ltb-true, each-at, at-below}
 use Rattle.model.proofs.Reading.{next-ok, byte-ok, many-item, many-length, ok-offset}
 use Rattle.model.proofs.Guarantees
-use Rattle.model.proofs.Guarantees.{Gives, gives-pure, gives-then, gives-byte, gives-many, reads, read-limits}
+use Rattle.model.proofs.Guarantees.{Gives, gives-pure, gives-then, gives-byte, gives-many, sized-is, reads, read-limits}
 use Rattle.model.proofs.Valid.{pool-facts}
 use Rattle.model.proofs.Words.{lent-given, lent-words}
 use Rattle.model.proofs.Kept.{OnSome, on-bind, on-is, on-when, choose-lent}
@@ -200,10 +200,6 @@ pub data OfTable (s : List ℕ) : Refusal → Type 0 where
   version : OfTable s (Refusal.plain No.version)
   form : {place : ℕ} → place ≤ length s → Within 6 16384 (length s) → OfTable s (Refusal.byte place)
 
-sized-within : (s : List ℕ) (n : ℕ) → Read.sized s n ≡ true → Within 6 16384 (length s)
-unfolding Read.sized
-sized-within s n e = tested 6 16384 (length s) (and-left (leb 6 (length s) && leb (length s) 16384) _ e)
-
 pub read-can : (s : List ℕ) → Can Any (OfTable s) (read s)
 unfolding read Read.readFrom Read.whole
 read-can s = go (Read.sized s (Read.lengthField s)) (eqb (getD s 4 0) 1) refl
@@ -220,7 +216,9 @@ read-can s = go (Read.sized s (Read.lengthField s)) (eqb (getD s 4 0) 1) refl
         (cond b
         (cond c (Read.whole s (Read.program s 5)) (Answer.refused (Refusal.plain No.version)))
         (Answer.refused (Refusal.plain No.size)))
-    go true true p = let w = sized-within s _ p in ends (Read.program s 5) (inside-program .stays s 5 (omega arith)) w
+    go true true p =
+        let S = sized-is s _ p in
+        ends (Read.program s 5) (inside-program .stays s 5 (omega arith)) (S .least, S .most)
     go true false p = OfTable.version
     go false c p = OfTable.size
 

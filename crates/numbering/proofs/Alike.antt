@@ -8,9 +8,9 @@ use mathlib.Core.List.{List, [], _∷_, _++_, map, map-append}
 use lib.Dec.{eqb}
 use lib.ListN.{getElem?}
 use Rattle.model.specs.Lists.{Each, concat}
-use Rattle.model.specs.Syntax.{Transfer, Block, SpawnCall, Function, Program, targets, sporkedBy, calledBy}
+use Rattle.model.specs.Syntax.{Block, SpawnCall, Function, Program, calledBy}
 use Rattle.model.specs.Limits.{Limits}
-use Rattle.model.proofs.Facts.{each-map, each-append, each-left, each-right, each-at, eqb-true, eqb-false, eq-eqb, ne-eqb}
+use Rattle.model.proofs.Facts.{each-map, each-append, each-at, eqb-true, eqb-false, eq-eqb, ne-eqb}
 use Rattle.numbering.specs.Renamed as Renamed
 use Rattle.numbering.specs.Renamed.{Names}
 use Rattle.numbering.specs.Mentions.{of, targetsOf, targetsIn, spawnsOf, spawnsIn, spawned, spawnedBy, functionsOf, functionsIn}
@@ -18,6 +18,7 @@ use Rattle.numbering.specs.Mentions.{Closed}
 use Rattle.numbering.specs.Renumbers.{Numbering, names, FunctionKept, BlockKept, SpawnKept, Renumbers, Apart}
 use Rattle.numbering.specs.Tidy.{member, mention, mentions, onward, grown, keptBlocks, keptSpawns, mentionedIn, keptFunctions, place}
 use Rattle.numbering.specs.Tidy.{before, picked, namesIn, tidyFunction, tidied}
+use Rattle.numbering.proofs.Agreeing.{block-agrees, spawn-agrees, then, block-then, spawn-then}
 use Rattle.numbering.proofs.Lists.{concat-each, mention-each, mentions-each, grown-each, map-at}
 use Rattle.numbering.proofs.Kept.{of-some}
 use Rattle.numbering.proofs.Mentioned.{targets-renamed, spawns-renamed, calls-renamed}
@@ -101,41 +102,6 @@ module _ (h : ℕ → ℕ) (K : ℕ → Type 0) where
       ((i : ℕ) → K i → (x : A) × (y : B) × (getElem? xs i ≡ some x) × (getElem? ys (h i) ≡ some y) × (g′ y ≡ g x)) →
       (ī j̄ : List ℕ) → Each K ī → j̄ ≡ map h ī → map g′ (picked ys j̄) ≡ map g (picked xs ī)
   picked-same g g′ xs ys same ī j̄ ks e = ap (λ (l : List ℕ). map g′ (picked ys l)) e ∙ picked-map g g′ xs ys same ī ks
-
--- M and then N gives what L gives, on what is mentioned
-module _ (M N L : Names) where
-  renamed-names : (xs : List ℕ) → Each (λ π. N .spawn (M .spawn π) ≡ L .spawn π) xs → map (N .spawn) (map (M .spawn) xs) ≡ map (L .spawn) xs
-  renamed-names [] h = refl
-  renamed-names (x ∷ xs) h = rw (h .0, renamed-names xs (h .1))
-
-  renamed-transfer : (T : Transfer) → Each (λ b. N .block (M .block b) ≡ L .block b) (targets T) →
-      Each (λ π. N .spawn (M .spawn π) ≡ L .spawn π) (sporkedBy T) →
-      Each (λ g. N .function (M .function g) ≡ L .function g) (calledBy T) →
-      Renamed.transfer N (Renamed.transfer M T) ≡ Renamed.transfer L T
-  unfolding Renamed.transfer targets sporkedBy calledBy
-  renamed-transfer (Transfer.goto b x̄) t s c = rw (t .0)
-  renamed-transfer (Transfer.if e b d) t s c = rw (t .0, t .1 .0)
-  renamed-transfer (Transfer.call g x̄ b) t s c = rw (t .0, c .0)
-  renamed-transfer (Transfer.return x̄) t s c = refl
-  renamed-transfer (Transfer.spork b π) t s c = rw (t .0, s .0)
-  renamed-transfer (Transfer.spoin b d) t s c = rw (t .0, t .1 .0)
-
-  renamed-block : (B : Block) → Each (λ b. N .block (M .block b) ≡ L .block b) (targetsOf B) →
-      Each (λ π. N .spawn (M .spawn π) ≡ L .spawn π) (spawnsOf B) →
-      Each (λ g. N .function (M .function g) ≡ L .function g) (calledBy (B .transfer)) →
-      Renamed.block N (Renamed.block M B) ≡ Renamed.block L B
-  unfolding Renamed.block Renamed.head targetsOf spawnsOf
-  renamed-block B t s c =
-      let Q : ℕ → Type 0 = λ π. N .spawn (M .spawn π) ≡ L .spawn π in
-      rw (
-        renamed-names (B .head .nesting) (each-left Q (B .head .nesting) (sporkedBy (B .transfer)) s),
-        renamed-transfer (B .transfer) t (each-right Q (B .head .nesting) (sporkedBy (B .transfer)) s) c,
-      )
-
-  renamed-spawn : (S : SpawnCall) → N .function (M .function (S .function)) ≡ L .function (S .function) →
-      Renamed.spawnCall N (Renamed.spawnCall M S) ≡ Renamed.spawnCall L S
-  unfolding Renamed.spawnCall
-  renamed-spawn S e = rw e
 
 module _ (R : Numbering) (P Q : Program) (S : Renumbers R P Q) (A : Apart R) where
   module _ (f : ℕ) (k : FunctionKept R f) where
@@ -313,7 +279,7 @@ module _ (R : Numbering) (P Q : Program) (S : Renumbers R P Q) (A : Apart R) whe
           Renamed.block (names R f) B,
           Y .old,
           Y .new,
-          renamed-block (names R f) namesNew namesOld B
+          block-then (names R f) namesNew B ∙ block-agrees (then (names R f) namesNew) namesOld B
               (each-map block-place (targetsOf B) (Y .blocks))
               (each-map spawn-place (spawnsOf B) (Y .spawns))
               (each-map function-place (calledBy (B .transfer)) (Y .calls)),
@@ -333,7 +299,8 @@ module _ (R : Numbering) (P Q : Program) (S : Renumbers R P Q) (A : Apart R) whe
           Renamed.spawnCall (names R f) T,
           Y .old,
           Y .new,
-          renamed-spawn (names R f) namesNew namesOld T (function-place (T .function) (Y .function)),
+          spawn-then (names R f) namesNew T ∙
+              spawn-agrees (then (names R f) namesNew) namesOld T (function-place (T .function) (Y .function)),
         ))
         (keptSpawns (old f k)) (keptSpawns (new f k)) (spawns-kept f k) (spawns-map f k)
 

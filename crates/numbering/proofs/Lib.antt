@@ -5,6 +5,7 @@ pub mod Kept
 pub mod Order
 pub mod Unique
 pub mod Instance
+pub mod Agreeing
 pub mod Alike
 pub mod Shorter
 pub mod Mentioned

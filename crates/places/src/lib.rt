@@ -109,7 +109,7 @@ pub fn mark_head(places: &mut Places, f: usize, b: usize, before: usize, n: usiz
 }
 
 // The place that an entry stands for.
-fn entry(at: u16) -> Place
+pub fn entry(at: u16) -> Place
     ensures { λ r. ⌜ r ≡ placeOf at ⌝ }
 {
     if at == Layout::ABSENT {

@@ -2,16 +2,16 @@
 use Prim.Native.Nat.{ℕ, _+_, _≤_, _<_}
 use native.Mathlib.Omega.{arith}
 use mathlib.Core.Path.{_≡_, refl, sym, ap, _∙_, subst}
-use mathlib.Core.Bool.{Bool, true, false, _&&_}
+use mathlib.Core.Bool.{Bool, true, false}
 use mathlib.Core.List.{List}
-use borrow.Author.Tests.{eq-eqb, ne-eqb, le-leb, lt-leb, leb-true, lt-ltb, ltb-true, ltb-false}
-use lib.Dec.{leb, ltb, eqb}
+use borrow.Author.Tests.{eq-eqb, ne-eqb, le-leb, lt-leb, lt-ltb, ltb-true, ltb-false}
+use lib.Dec.{ltb, eqb}
 use lib.ListN.{length, getD}
 use Rattle.model.specs.Numbers as No
 use Rattle.model.specs.Answers.{Refusal, Answer, outcome}
 use Rattle.model.specs.Syntax.{Program}
 use Rattle.model.specs.Read.{Parsed, byte, half, word, next, program, orZero, lengthField, sized, whole, readFrom, read}
-use Rattle.model.proofs.Guarantees.{reads}
+use Rattle.model.proofs.Guarantees.{sized-is, reads}
 use Rattle.code.specs.Bytes.{byteAt, past, halfAt, wordAt}
 use Rattle.answers.specs.declared.Answer as Code
 use Rattle.answers.specs.declared.Answer.the-variants.{Given, Refused}
@@ -40,15 +40,6 @@ module _ (s : List ℕ) (field : ℕ) where
   pub in-limits : 6 ≤ length s → length s ≤ 16384 → eqb field (length s) ≡ sized s field
   unfolding sized
   in-limits h l = simp (le-leb 6 (length s) h, le-leb (length s) 16384 l)
-
-  at-most : sized s field ≡ true → length s ≤ 16384
-  unfolding sized
-  at-most e = go (leb 6 (length s)) (leb (length s) 16384) refl e
-    where
-      go : (a b : Bool) → leb (length s) 16384 ≡ b → (a && b && eqb field (length s)) ≡ true → length s ≤ 16384
-      go true true h e = leb-true (length s) 16384 h
-      go true false h e = absurd (let z : _≡_ {A = ℕ} 0 1 = cc in omega arith)
-      go false b h e = absurd (let z : _≡_ {A = ℕ} 0 1 = cc in omega arith)
 
 -- reading from an offset on: what was read, and the code's answer r with the places l
 module _ (s : List ℕ) (at field version : ℕ) (before l : List ℕ) (r : Code.Answer) (bytes : (i : ℕ) → getD s i 0 < 256) where
@@ -160,7 +151,7 @@ read-through s before after field version r f v h = read-all s _ field version b
 
 -- the places of a table that reads
 pub read-places : (s : List ℕ) (P : Program) → read s ≡ Answer.given P → Places s P (programMarks s 5 nowhere)
-read-places s P e = let R = reads s P e in placed _ heads s (at-most s _ (R .sized)) 5 P _ (R .program)
+read-places s P e = let R = reads s P e in placed _ heads s (sized-is s _ (R .sized) .most) 5 P _ (R .program)
 
 pub left-places : (s before after : List ℕ) (P : Program) → after ≡ leaves s 5 before (read s) → before ≡ nowhere
     → read s ≡ Answer.given P → Places s P after

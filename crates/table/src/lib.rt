@@ -2,6 +2,7 @@
 use answers::Answer;
 use answers::No;
 use answers::Refusal;
+use code::Table;
 use places::Places;
 ghost use mathlib.Core.Path.{_≡_};
 ghost use Rattle.model.specs.Read as Read;
@@ -78,7 +79,7 @@ fn tested(s: &[u8], at: usize, field: u32, version: u8, places: &mut Places) -> 
     ensures { λ r. ⌜ ReadFrom (now (s .entry)) at field version (now (places .entry)) (now (places .exit)) r ⌝ }
 {
     if sized(s, field) {
-        if version != 1 {
+        if version != Table::VERSION {
             return refused(Refusal::Plain(No::VERSION), places);
         }
         match walk::program(s, at, places) {

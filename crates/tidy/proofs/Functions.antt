@@ -19,7 +19,7 @@ use Rattle.numbering.proofs.Kept.{kept-blocks, kept-spawns, kept-functions}
 use Rattle.kept.specs.Kept.{most, numberIn, Lists}
 use Rattle.tidy.specs.Writes.{namesBy}
 use Rattle.tidy.specs.Tables.{spawnBytes, blockBytes, spawnIn, blockIn, countsOf, eachSpawn, eachBlock}
-use Rattle.tidy.proofs.Agreeing.{map-agrees, block-agrees, spawn-agrees}
+use Rattle.numbering.proofs.Agreeing.{map-agrees, block-agrees, spawn-agrees}
 
 -- a list has the new number of what is in it
 number-is : {list : List ℕ} {n : ℕ} {xs : List ℕ} → Lists list n xs → (x : ℕ) → member x xs ≡ true → numberIn list x ≡ place xs x

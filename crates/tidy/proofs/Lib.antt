@@ -1,7 +1,6 @@
 pub mod Left
 pub mod Putting
 pub mod Renaming
-pub mod Agreeing
 pub mod Functions
 pub mod Lists
 pub mod Placed

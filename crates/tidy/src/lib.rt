@@ -3,6 +3,7 @@
 use answers::Answer;
 use answers::No;
 use answers::Refusal;
+use code::Table;
 use places::Place;
 use places::Places;
 use transfers::Transfers;
@@ -21,15 +22,6 @@ ghost use Rattle.tidy.specs.Tables.{Fits, PutsTable};
 pub enum Written {
     Bytes(u32),
     Refused(Refusal),
-}
-
-// Where the functions of a table begin, with their number, behind its length and its version; and the version.
-struct Table {}
-
-impl Table {
-    const FUNCTIONS_AT: usize = 5;
-
-    const VERSION: u8 = 1;
 }
 
 // The bytes of s between two offsets.

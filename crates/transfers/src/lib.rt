@@ -6,7 +6,6 @@ use places::Places;
 ghost use mathlib.Core.Path.{_≡_};
 ghost use Rattle.code.specs.Bytes.{byteAt, past};
 ghost use Rattle.code.specs.Code.{statementsEnd};
-ghost use Rattle.places.specs.Places.{placeOf};
 ghost use Rattle.transfers.specs.Transfers.{nowhere, Finds, FindsTransfer};
 
 // The array's record: its length, how many offsets an entry holds, and the entry of a block that is not there.
@@ -55,24 +54,13 @@ pub fn find(s: &[u8], places: &Places, transfers: &mut Transfers)
     }
 }
 
-// The place that an entry stands for.
-fn entry(at: u16) -> Place
-    ensures { λ r. ⌜ r ≡ placeOf at ⌝ }
-{
-    if at == Ends::ABSENT {
-        Place::Nowhere
-    } else {
-        Place::At(at as usize)
-    }
-}
-
 // The transfer of block b of function f.
 pub fn transfer(transfers: &Transfers, f: usize, b: usize) -> Place
     ensures { λ r. ⌜ FindsTransfer (now (transfers .entry)) f b r ⌝ }
 {
     if f < Layout::FUNCTIONS {
         if b < Layout::BLOCKS {
-            return entry(transfers[Layout::BLOCKS * f + b]);
+            return places::entry(transfers[Layout::BLOCKS * f + b]);
         }
     }
     Place::Nowhere
