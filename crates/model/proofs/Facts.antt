@@ -5,7 +5,7 @@ use mathlib.Core.Path.{_≡_, refl, sym, _∙_, ap, subst}
 use mathlib.Core.Bool.{Bool, true, false, not, _&&_, _||_, true≢false, false≢true}
 use mathlib.Core.Option.{Option, none, some, Option·map}
 use mathlib.Core.List.{List, [], _∷_, _++_}
-use native.Mathlib.Nat.{not-suc-le-zero, le-of-suc-le-suc}
+use native.Mathlib.Nat.{zero-add, suc-add, not-suc-le-zero, le-of-suc-le-suc}
 use native.Mathlib.Numerals.{add-one}
 use native.Mathlib.Omega.{arith}
 use lib.Dec.{eqb}
@@ -124,6 +124,16 @@ module _ {A : Type 0} where
   below-at [] i h = absurd (not-suc-le-zero h)
   below-at (x ∷ xs) zero h = (x, refl)
   below-at (x ∷ xs) (suc i) h = below-at xs i (le-of-suc-le-suc h)
+
+  -- an index into the first of two lists, and one into the second
+  pub at-first : (xs ys : List A) (i : ℕ) {x : A} → getElem? xs i ≡ some x → getElem? (xs ++ ys) i ≡ some x
+  at-first [] ys i e = none-some e
+  at-first (y ∷ xs) ys zero e = e
+  at-first (y ∷ xs) ys (suc i) e = at-first xs ys i e
+
+  pub at-second : (xs ys : List A) (i : ℕ) → getElem? (xs ++ ys) (length xs + i) ≡ getElem? ys i
+  at-second [] ys i = ap (getElem? ys) (zero-add i)
+  at-second (x ∷ xs) ys i = ap (getElem? (x ∷ xs ++ ys)) (suc-add (length xs) i) ∙ at-second xs ys i
 
   -- the same of an index past the end
   pub at-past : (xs : List A) (i : ℕ) → getElem? xs i ≡ none → length xs ≤ i

@@ -11,7 +11,7 @@ use lib.Dec.{eqb, eqb·suc-suc, eqb·suc-zero}
 use lib.ListN.{length, getElem?, drop, replicate, length-append, length-map, length-replicate, drop-of-length-le}
 use Rattle.model.specs.Lists.{Each, concat}
 use Rattle.model.proofs.Facts.{true-false, none-some, some-injective, left-or, right-or, or-right, each-append, each-at}
-use Rattle.model.proofs.Facts.{eqb-true, eqb-false, eq-eqb, ne-eqb, at-below, below-at, drop-some, drop-none}
+use Rattle.model.proofs.Facts.{eqb-true, eqb-false, eq-eqb, ne-eqb, at-below, below-at, at-first, drop-some, drop-none}
 use Rattle.numbering.specs.Tidy.{member, Distinct, mention, mentions, onward, grown, place, before, picked}
 
 -- neither part of a disjunction that fails holds
@@ -112,14 +112,9 @@ pub begins-then : {xs ys zs : List ℕ} → Begins xs ys → Begins ys zs → Be
 begins-then {xs} b c =
     record { rest = b .rest ++ c .rest; is = c .is ∙ ap (λ (l : List ℕ). l ++ c .rest) (b .is) ∙ append-assoc xs (b .rest) (c .rest) }
 
-append-at : (xs ys : List ℕ) (i : ℕ) {x : ℕ} → getElem? xs i ≡ some x → getElem? (xs ++ ys) i ≡ some x
-append-at [] ys i e = none-some e
-append-at (y ∷ xs) ys zero e = e
-append-at (y ∷ xs) ys (suc i) e = append-at xs ys i e
-
 -- what stands in the beginning stands there, and its members are members
 pub begins-at : {xs zs : List ℕ} → Begins xs zs → (i : ℕ) {x : ℕ} → getElem? xs i ≡ some x → getElem? zs i ≡ some x
-begins-at {xs} b i e = rw (b .is) (append-at xs (b .rest) i e)
+begins-at {xs} b i e = rw (b .is) (at-first xs (b .rest) i e)
 
 pub begins-member : {xs zs : List ℕ} → Begins xs zs → (x : ℕ) → member x xs ≡ true → member x zs ≡ true
 begins-member {xs} b x h = rw (b .is) (member-left x xs (b .rest) h)

@@ -1,41 +1,23 @@
--- The frame that words say; the frame starts.
-use Prim.Native.Nat.{ℕ, _+_, _*_, _/_, _%_, _≤_, _<_}
-use mathlib.Core.Path.{_≡_, refl, sym, ap, subst⁻¹, _∙_}
-use mathlib.Core.Bool.{Bool}
+-- The frame that words say.
+use Prim.Native.Nat.{ℕ, _+_, _%_, _≤_, _<_}
+use mathlib.Core.Path.{_≡_, refl, sym, ap, _∙_}
 use mathlib.Core.List.{List, [], _∷_, _++_, map}
 use native.Mathlib.Omega.{arith}
-use lib.Dec.{T, eqb, eqb→eq, lit≤}
+use lib.Dec.{lit≤}
 use lib.IntN.{ℤ, pos}
 use lib.ListN.{length, getD, take, drop, length-drop, take-append-drop}
 use lib.Seq.{getD-take, getD-drop, drop-drop, take-append-le, drop-append-le}
-use mir.Syntax.{w32, w64}
-use mir.Val.{Fits, SFits, toZ, ofZ}
+use mir.Syntax.{w32}
+use mir.Val.{SFits, toZ, ofZ}
 use mir.Facts.{toZ-pos, toZ-ofZ}
 use Rattle.model.specs.Lists.{Each, pad}
-use Rattle.model.specs.Pool.{Frame, temporaries, mostCalls, mostFrames, mostThreads, functionAt, blockAt, doneAt, boundAt, openedAt}
-use Rattle.model.specs.Pool.{promotedAt, callsAt, valuesAt, frameWords, startOf, wordsOfFrame, frameOf}
+use Rattle.model.specs.Pool.{Frame, temporaries, mostCalls, functionAt, blockAt, doneAt, boundAt, openedAt}
+use Rattle.model.specs.Pool.{promotedAt, callsAt, valuesAt, frameWords, wordsOfFrame, frameOf}
 use Rattle.model.specs.Valid.{FrameFits}
 use Rattle.model.proofs.Words.{frame-length, frame-back}
-use Rattle.words.proofs.Table.{at, every}
 use Rattle.pool.specs.Held.{bitsAt, bytesFrom}
 use Rattle.pool.specs.Frame.{Small}
 use Rattle.pool.specs.InPlace.{frameAt}
-
--- the table of frame starts
-abbrev pub right : ℕ → ℕ → Bool
-right k x = eqb x (startOf (k / mostFrames) (k % mostFrames))
-
-pub starts : (xs : List ℕ) → T (every right 0 xs) → length xs ≡ mostThreads * mostFrames → (i j : ℕ) → i < mostThreads → j < mostFrames
-    → getD xs (mostFrames * i + j) 0 ≡ startOf i j
-starts xs t n i j p q =
-    let k : ℕ = mostFrames * i + j in
-    let d : k / mostFrames ≡ i = omega arith in
-    let m : k % mostFrames ≡ j = omega arith in
-    eqb→eq (getD xs k 0) (startOf (k / mostFrames) (k % mostFrames)) (at right xs t k (omega arith)) ∙ rw (d, m)
-
-pub starts-fit : (xs : List ℕ) → T (every right 0 xs) → length xs ≡ mostThreads * mostFrames → (i j : ℕ) → i < mostThreads → j < mostFrames
-    → Fits w64 (getD xs (mostFrames * i + j) 0)
-starts-fit xs t n i j p q = subst⁻¹ (Fits w64) (starts xs t n i j p q) (record { fits = omega arith })
 
 -- a number that the code writes as a word
 pub word : (n : ℕ) → n < 65536 → toZ w32 n ≡ pos n

@@ -58,6 +58,21 @@ impl Pool {
 
     pub const WORDS: usize = Pool::THREADS_AT + Pool::THREADS * Pool::THREAD_WORDS;
 
+    // Where a thread begins, and a frame of it, oldest first.
+    fn thread_start(thread: usize) -> usize
+        requires { ⌜ thread < mostThreads ⌝ }
+        ensures { λ r. ⌜ r ≡ threadStart thread ⌝ }
+    {
+        Pool::THREADS_AT + Pool::THREAD_WORDS * thread
+    }
+
+    pub fn frame_start(thread: usize, frame: usize) -> usize
+        requires { ⌜ (thread < mostThreads) × (frame < mostFrames) ⌝ }
+        ensures { λ r. ⌜ r ≡ startOf thread frame ⌝ }
+    {
+        Pool::thread_start(thread) + Pool::FRAMES_AT + Pool::FRAME_WORDS * frame
+    }
+
     pub fn empty_frame() -> Frame
         ensures { λ r. ⌜ modelOf r ≡ begin 0 [] ⌝ }
     {
@@ -84,81 +99,6 @@ pub struct Frame {
     pub promoted: u8,
     pub calls: [u8; Pool::CALLS],
     pub values: [i32; Pool::TEMPORARIES],
-}
-
-// Where each frame begins: thread by thread, oldest frame first.
-const STARTS: [u16; Pool::THREADS * Pool::FRAMES] = [
-    2,
-    28,
-    54,
-    80,
-    106,
-    132,
-    158,
-    184,
-    211,
-    237,
-    263,
-    289,
-    315,
-    341,
-    367,
-    393,
-    420,
-    446,
-    472,
-    498,
-    524,
-    550,
-    576,
-    602,
-    629,
-    655,
-    681,
-    707,
-    733,
-    759,
-    785,
-    811,
-    838,
-    864,
-    890,
-    916,
-    942,
-    968,
-    994,
-    1020,
-    1047,
-    1073,
-    1099,
-    1125,
-    1151,
-    1177,
-    1203,
-    1229,
-    1256,
-    1282,
-    1308,
-    1334,
-    1360,
-    1386,
-    1412,
-    1438,
-    1465,
-    1491,
-    1517,
-    1543,
-    1569,
-    1595,
-    1621,
-    1647,
-];
-
-pub fn frame_start(thread: usize, frame: usize) -> usize
-    requires { ⌜ (thread < mostThreads) × (frame < mostFrames) ⌝ }
-    ensures { λ r. ⌜ r ≡ startOf thread frame ⌝ }
-{
-    STARTS[Pool::FRAMES * thread + frame] as usize
 }
 
 // The bits of the word at a place, and the low 8 and 16 of them.
@@ -311,14 +251,6 @@ pub fn promote_call(ws: &mut [i32], at: usize)
     ws[at + Pool::PROMOTED_AT] = (n + 1) as i32;
 }
 
-// Where a thread begins.
-pub fn thread_start(thread: usize) -> usize
-    requires { ⌜ thread < mostThreads ⌝ }
-    ensures { λ r. ⌜ r ≡ threadStart thread ⌝ }
-{
-    Pool::THREADS_AT + Pool::THREAD_WORDS * thread
-}
-
 // How many threads there are, and how many frames a thread has. Words that hold no pool count as some number of 1 to 8.
 pub fn thread_count(ws: &[i32]) -> usize
     requires { ⌜ length (now ws) ≡ poolWords ⌝ }
@@ -331,7 +263,7 @@ pub fn frame_count(ws: &[i32], thread: usize) -> usize
     requires { ⌜ (length (now ws) ≡ poolWords) × (thread < mostThreads) ⌝ }
     ensures { λ r. ⌜ r ≡ framesIn (now (ws .entry)) thread ⌝ }
 {
-    let at = thread_start(thread) + Pool::FRAME_COUNT_AT;
+    let at = Pool::thread_start(thread) + Pool::FRAME_COUNT_AT;
     (bits_at(ws, at) as usize + (Pool::FRAMES - 1)) % Pool::FRAMES + 1
 }
 
@@ -341,7 +273,7 @@ pub fn newest_start(ws: &[i32], thread: usize) -> usize
     ensures is { λ r. ⌜ r ≡ newestAt (now (ws .entry)) thread ⌝ }
     ensures within { λ r. ⌜ r + frameWords ≤ poolWords ⌝ }
 {
-    frame_start(thread, frame_count(ws, thread) - 1)
+    Pool::frame_start(thread, frame_count(ws, thread) - 1)
 }
 
 // A count, put into a word.
@@ -358,7 +290,7 @@ pub fn push_frame(ws: &mut [i32], thread: usize)
     ensures { λ _. ⌜ Pushed (now (ws .entry)) thread (begin 0 []) (now (ws .exit)) ⌝ }
 {
     let n = frame_count(ws, thread);
-    let at = thread_start(thread) + Pool::FRAME_COUNT_AT;
+    let at = Pool::thread_start(thread) + Pool::FRAME_COUNT_AT;
     set_count(ws, at, n + 1);
 }
 
@@ -369,7 +301,7 @@ pub fn pop_frame(ws: &mut [i32], thread: usize, k: usize)
     ensures { λ _. ⌜ Popped (now (ws .entry)) thread (now (ws .exit)) ⌝ }
 {
     let n = frame_count(ws, thread);
-    let at = thread_start(thread) + Pool::FRAME_COUNT_AT;
+    let at = Pool::thread_start(thread) + Pool::FRAME_COUNT_AT;
     set_count(ws, at, n - 1);
     words::clear(ws, k, Pool::FRAME_WORDS);
 }
@@ -381,8 +313,8 @@ pub fn add_thread(ws: &mut [i32], thread: usize)
     ensures { λ _. ⌜ Added (now (ws .entry)) thread (begin 0 []) (now (ws .exit)) ⌝ }
 {
     let n = thread_count(ws);
-    let at = thread_start(thread + 1);
-    let end = thread_start(n);
+    let at = Pool::thread_start(thread + 1);
+    let end = Pool::thread_start(n);
     set_count(ws, Pool::THREAD_COUNT_AT, n + 1);
     words::move_run(ws, at, at + Pool::THREAD_WORDS, end - at);
     words::clear(ws, at, Pool::THREAD_WORDS);
@@ -395,8 +327,8 @@ pub fn remove_thread(ws: &mut [i32], thread: usize)
     ensures { λ _. ⌜ Removed (now (ws .entry)) thread (now (ws .exit)) ⌝ }
 {
     let n = thread_count(ws);
-    let at = thread_start(thread + 1);
-    let end = thread_start(n - 1);
+    let at = Pool::thread_start(thread + 1);
+    let end = Pool::thread_start(n - 1);
     set_count(ws, Pool::THREAD_COUNT_AT, n - 1);
     words::move_run(ws, at + Pool::THREAD_WORDS, at, end - at);
     words::clear(ws, end, Pool::THREAD_WORDS);
@@ -408,7 +340,7 @@ pub fn start_pool(ws: &mut [i32])
     ensures { λ _. ⌜ now (ws .exit) ≡ wordsOf started ⌝ }
 {
     words::clear(ws, 0, Pool::WORDS);
-    let at = thread_start(0) + Pool::FRAME_COUNT_AT;
+    let at = Pool::thread_start(0) + Pool::FRAME_COUNT_AT;
     set_count(ws, Pool::THREAD_COUNT_AT, 1);
     set_count(ws, at, 1);
 }

@@ -12,7 +12,7 @@ use types.Run.{miss}
 use Rattle.model.specs.Numbers as No
 use Rattle.model.specs.Lists.{pad}
 use Rattle.model.specs.Syntax.{Program}
-use Rattle.model.specs.Pool.{Frame, Thread, Pool, mostFrames, frameWords, framesAt, threadStart, restacked}
+use Rattle.model.specs.Pool.{Frame, Thread, Pool, mostFrames, frameWords, startOf, restacked}
 use Rattle.model.specs.Frames.{lookAll, deque, enter}
 use Rattle.model.specs.Rules.{Act, act, ended, returned}
 use Rattle.pool.specs.Held.{FrameAt}
@@ -88,7 +88,7 @@ module _ {s places : List ℕ} {ws : List ℤ} {i m : ℕ} (c : m ≡ framesIn w
         left = rw (more-none (t .older) _ l) (filled-none (t .newest) out);
       }
 
-  pub brings-given : (out₀ out : List ℤ) {k : ℕ} (r : Ended) → m ≡ 1 → k ≡ threadStart i + framesAt
+  pub brings-given : (out₀ out : List ℤ) {k : ℕ} (r : Ended) → m ≡ 1 → k ≡ startOf i 0
       → Giving s places (frameAt ws k) out₀ r out
       → Brings s places ws i out₀ r out
   unfolding ended

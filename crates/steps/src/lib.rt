@@ -47,7 +47,7 @@ fn returned(s: &[u8], places: &Places, ws: &[i32], i: usize, out: &mut [i32]) ->
     if pool::frame_count(ws, i) != 1 {
         return Ended::Runs;
     }
-    let k = pool::thread_start(i) + Pool::FRAMES_AT;
+    let k = Pool::frame_start(i, 0);
     rules::giving(s, places, ws, k, out)
 }
 
@@ -277,7 +277,7 @@ fn oldest(ws: &[i32], i: usize) -> Unpromoted
     let newest = pool::frame_count(ws, i) - 1;
     let mut j = 0;
     while j <= newest {
-        let k = pool::frame_start(i, j);
+        let k = Pool::frame_start(i, j);
         let p = pool::promoted(ws, k);
         if p < pool::opened(ws, k) {
             return Unpromoted {
@@ -302,7 +302,7 @@ fn spawn(ws: &mut [i32], i: usize, k: usize, g: u8, n: u8, out: &[i32])
     ensures { λ _. ⌜ Spawned (now (ws .entry)) i k g n (now (out .entry)) (now (ws .exit)) ⌝ }
 {
     pool::add_thread(ws, i);
-    eval::begin(ws, pool::thread_start(i + 1) + Pool::FRAMES_AT, g, n, out);
+    eval::begin(ws, Pool::frame_start(i + 1, 0), g, n, out);
     pool::promote_call(ws, k);
 }
 

@@ -1,4 +1,3 @@
 pub mod Wrapping
 pub mod Moves
-pub mod Table
 pub mod Sets

@@ -2,10 +2,12 @@
 
 use fast::Fast;
 use oracle::encode::encode;
+use oracle::full;
 use oracle::gen::{calls, faults, programs, scenario, twins};
-use oracle::machine::{differences, tables_differ};
+use oracle::machine::{differences, tables_differ, Machine};
 use oracle::rng::Rng;
-use oracle::stored::tidy_rows;
+use oracle::stored::{frame_starts, tidy_rows};
+use oracle::POOL_WORDS;
 
 #[test]
 fn same_answers() {
@@ -46,4 +48,15 @@ fn same_tidy_tables() {
         let found = tables_differ(&Fast, &encode(&twins::twin(rng, &program)));
         assert!(found.is_empty(), "round {round}: {found:?}");
     }
+}
+
+/// A full pool, whose frames stand at the stored starts.
+#[test]
+fn same_frame_starts() {
+    let (table, choices) = (encode(&full::program()), full::choices());
+    let (mut words, mut made) = (vec![-1; POOL_WORDS], 0);
+    assert_eq!(Fast.start(&table, &mut words), Ok(()));
+    let answer = Fast.schedule(&table, &mut words, &choices, &mut made);
+    assert_eq!((answer, made), (Ok(()), choices.len() as u64));
+    assert_eq!(words, full::words(&frame_starts()));
 }

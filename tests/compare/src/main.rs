@@ -3,7 +3,8 @@
 //! places, and what is written; asserts the laws of every number answered and
 //! of the memory lent; and asserts demand 3 of the library, what depths say,
 //! and that tidy tables answer as their tables, on random runs of accepted
-//! tables. Stored tables are tidied too.
+//! tables. Stored tables are tidied too, and a pool is filled to see where each
+//! frame begins.
 //!
 //! `compare SEED COUNT`; the last line is `compare: N passed, M failed`.
 
@@ -11,6 +12,7 @@ mod laws;
 mod lent;
 mod library;
 mod runs;
+mod starts;
 mod twins;
 
 use library::Library;
@@ -37,6 +39,7 @@ fn main() -> ExitCode {
     let library = Library::default();
     let mut tally = Tally::new("compare", events());
     twins::check_stored(&mut tally, &library);
+    starts::check_full(&mut tally, &library);
     for round in 0..count {
         tally.round = round;
         let mut rng = Rng::of_round(seed, round);
@@ -68,7 +71,7 @@ fn events() -> Vec<String> {
     events.extend(twins::EVENTS.map(String::from));
     events.extend(Source::ALL.map(|source| format!("scenario {source:?}")));
     events.extend(NOTES.map(String::from));
-    let others = [FULL_SIZE, PAIR, LONG];
+    let others = [FULL_SIZE, PAIR, LONG, starts::EVENT];
     events.extend(laws::events());
     events.extend(others.into_iter().chain(runs::EVENTS).map(String::from));
     events

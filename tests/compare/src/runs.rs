@@ -6,7 +6,7 @@
 use oracle::encode::encode;
 use oracle::gen::schedules::{guided_choice, guided_schedule, Choice, Order, Policy};
 use oracle::machine::Machine;
-use oracle::pool::{Pool, MAX_FRAMES, MAX_THREADS};
+use oracle::pool::{thread_start, Pool, MAX_FRAMES, MAX_THREADS};
 use oracle::rng::Rng;
 use oracle::rules::{self, ended, steppable, Rule, PROMOTE, STEP};
 use oracle::table::Program;
@@ -30,10 +30,6 @@ const ROOMY: &str = "run at a depth of at most 8";
 const AT_DEPTH: &str = "run with as many frames as the depth, 2 to 8";
 const DEEP: &str = "run that gets 18 at a depth above 8";
 const CYCLIC: &str = "run that gets 18 where the depth is 22";
-
-/// Where the number of a thread's frames stands in a pool's words.
-const FIRST_THREAD: usize = 1;
-const THREAD_WORDS: usize = 209;
 
 /// A run of an accepted table on a machine.
 struct Run<'a> {
@@ -105,12 +101,13 @@ impl Run<'_> {
             .is_some_and(|depth| usize::from(depth) <= MAX_FRAMES)
     }
 
-    /// No thread has more frames than the depth, by the words.
+    /// No thread has more frames than the depth, by the words: the number of
+    /// its frames is the first of a thread.
     fn few_frames(&self, tally: &mut Tally) {
         let Some(depth) = self.depth.map(i32::from) else {
             return;
         };
-        let frames = |thread: usize| self.words[FIRST_THREAD + THREAD_WORDS * thread];
+        let frames = |thread: usize| self.words[thread_start(thread)];
         let most = (0..MAX_THREADS).map(frames).max().unwrap_or(0);
         tally.expect(most <= depth, || {
             format!("a thread has {most} frames at the depth {depth}")

@@ -7,6 +7,7 @@
 pub mod check;
 pub mod depth;
 pub mod encode;
+pub mod full;
 pub mod gen;
 pub mod graph;
 pub mod machine;

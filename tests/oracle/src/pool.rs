@@ -7,11 +7,24 @@ use crate::table::{Function, Program};
 pub const POOL_WORDS: usize = 1_673;
 pub const THREAD_WORDS: usize = 209;
 pub const FRAME_WORDS: usize = 26;
+/// Words before a pool's threads and before a thread's frames: their numbers.
+pub const POOL_HEAD: usize = 1;
+pub const THREAD_HEAD: usize = 1;
 /// Limits of a pool.
 pub const MAX_THREADS: usize = 8;
 pub const MAX_FRAMES: usize = 8;
 pub const MAX_CALLS: usize = 4;
 pub const TEMPORARIES: usize = 16;
+
+/// Where a thread begins.
+pub const fn thread_start(thread: usize) -> usize {
+    POOL_HEAD + THREAD_WORDS * thread
+}
+
+/// Where a frame begins, the oldest of a thread first.
+pub const fn frame_start(thread: usize, frame: usize) -> usize {
+    thread_start(thread) + THREAD_HEAD + FRAME_WORDS * frame
+}
 
 /// The values of a frame's temporaries, `None` where unbound.
 pub type Temporaries = [Option<i32>; TEMPORARIES];

@@ -1,5 +1,5 @@
 //! What is stored beside this implementation: tables with their tidy tables,
-//! and the tables of the stored cases.
+//! the tables of the stored cases, and the frame starts.
 
 use std::fs;
 use std::path::{Path, PathBuf};
@@ -66,4 +66,12 @@ fn front(mut input: Vec<u8>) -> Vec<u8> {
         input.truncate(u32::from_be_bytes(*field) as usize);
     }
     input
+}
+
+/// The numbers of `tests/starts/constants.txt`.
+pub fn frame_starts() -> Vec<usize> {
+    let text = fs::read_to_string(stored("starts/constants.txt")).expect("the starts are there");
+    text.lines()
+        .map(|line| line.parse().expect("a number"))
+        .collect()
 }

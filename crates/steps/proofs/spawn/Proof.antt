@@ -1,6 +1,5 @@
 use borrow.Author.Needs.{needs}
 use denote.Ref.{now}
-use native.Mathlib.Omega.{arith}
 use Rattle.steps.proofs.Writing.{was-spawned}
 use Rattle.steps.proofs.spawn.Statement.{statement}
 use Rattle.steps.proofs.spawn.Tie as tie
@@ -11,10 +10,10 @@ returns c =
     let at-add-thread = at-begin .before .before .before .before in
     let s = at-add-thread .before .before .args in
     was-spawned (s .g) (s .n) (now (s .out)) (at-add-thread .add-thread .ensures)
-    (omega (arith, at-begin .before .thread-start .ensures)) (at-begin .begin .ensures) (c .before .promote-call .ensures)
+    (at-begin .before .frame-start .ensures) (at-begin .begin .ensures) (c .before .promote-call .ensures)
 
 pub spawn-spec : {M : Type 1} → statement M
 spawn-spec =
     tie.close
-    (tie.spec (λ c κs. search needs) (λ c. search needs) (λ c κs. search needs) (λ c. search needs) (λ c κs. search needs)
-    (λ c κs. search needs) (λ c. search needs) returns)
+    (tie.spec (λ c κs. search needs) (λ c. search needs) (λ c κs. search needs) (λ c κs. search needs) (λ c κs. search needs)
+    (λ c. search needs) returns)

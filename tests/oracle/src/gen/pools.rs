@@ -2,8 +2,8 @@
 
 use crate::gen::schedules::{guided_choice, Policy};
 use crate::pool::{
-    Frame, Pool, Thread, FRAME_WORDS, MAX_CALLS, MAX_FRAMES, MAX_THREADS, POOL_WORDS, TEMPORARIES,
-    THREAD_WORDS,
+    frame_start, thread_start, Frame, Pool, Thread, FRAME_WORDS, MAX_CALLS, MAX_FRAMES,
+    MAX_THREADS, POOL_WORDS, TEMPORARIES,
 };
 use crate::rng::Rng;
 use crate::rules::choose;
@@ -186,16 +186,16 @@ pub fn fill_unused(rng: &mut Rng, pool: &Pool, words: &mut [i32]) {
     let i = rng.below(threads.len());
     let j = rng.below(threads[i].frames.len());
     let frame = &threads[i].frames[j];
-    let start = 2 + THREAD_WORDS * i + FRAME_WORDS * j;
+    let start = frame_start(i, j);
     let mut places: Vec<usize> = (frame.calls.len()..MAX_CALLS)
         .map(|c| start + 6 + c)
         .collect();
     let unbound = (0..TEMPORARIES).filter(|&t| frame.temporaries[t].is_none());
     places.extend(unbound.map(|t| start + 10 + t));
-    let after_frames = 2 + THREAD_WORDS * i + FRAME_WORDS * threads[i].frames.len();
-    let after_threads = 1 + THREAD_WORDS * threads.len();
+    let after_frames = frame_start(i, threads[i].frames.len());
+    let after_threads = thread_start(threads.len());
     for (from, to) in [
-        (after_frames, 1 + THREAD_WORDS * (i + 1)),
+        (after_frames, thread_start(i + 1)),
         (after_threads, POOL_WORDS),
     ] {
         if from < to {
@@ -235,11 +235,12 @@ fn odd_word(rng: &mut Rng, word: i32) -> i32 {
 fn telling_place(rng: &mut Rng, words: &[i32]) -> usize {
     let threads = words[0].clamp(1, MAX_THREADS as i32) as usize;
     let thread = rng.between(0, threads.min(MAX_THREADS - 1));
-    let at = 1 + THREAD_WORDS * thread;
+    let at = thread_start(thread);
     let frames = words[at].clamp(0, MAX_FRAMES as i32) as usize;
     let frame = rng.between(0, frames.min(MAX_FRAMES - 1));
-    let within = at + 1 + FRAME_WORDS * frame + rng.below(FRAME_WORDS);
-    let early = at + 1 + FRAME_WORDS * frame + rng.below(10);
+    let start = frame_start(thread, frame);
+    let within = start + rng.below(FRAME_WORDS);
+    let early = start + rng.below(10);
     let any = rng.below(POOL_WORDS);
     rng.one_of([0, at, at, within, within, early, early, early, early, any])
 }

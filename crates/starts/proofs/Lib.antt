@@ -1,0 +1,5 @@
+pub mod Begins
+pub mod Order
+pub mod Printed
+pub mod Rows
+pub mod Turns
