@@ -1,7 +1,7 @@
 -- How the first fault of tests goes: a test that fails or holds, one after another, and a thing that has to be there.
 use Prim.Native.Nat.{ℕ}
 use mathlib.Core.Path.{_≡_, refl, _∙_, ap}
-use mathlib.Core.Bool.{Bool, true, false, not}
+use mathlib.Core.Bool.{Bool, true, false}
 use mathlib.Core.Option.{Option, none, some}
 use mathlib.Core.List.{List, [], _∷_}
 use Rattle.model.specs.Tests.{Tests, _then_, or, failed, ofGiven, ofEach, fault}
@@ -43,10 +43,3 @@ module _ {A : Type 0} (t : A → Tests) where
   pub each-second : (a : A) (as′ : List A) → fault (t a) ≡ none → fault (Tests.each t (a ∷ as′)) ≡ fault (Tests.each t as′)
   unfolding fault ofEach or
   each-second a as′ e = ap (λ (o : Option ℕ). or o (ofEach (λ b. fault (t b)) as′)) e
-
--- a test, and its value
-pub not-of-true : (b : Bool) → b ≡ true → not b ≡ false
-not-of-true b e = ap not e
-
-pub not-of-false : (b : Bool) → b ≡ false → not b ≡ true
-not-of-false b e = ap not e

@@ -8,7 +8,7 @@ use native.Mathlib.Omega.{arith}
 use lib.Dec.{eqb}
 use lib.ListN.{length, getD}
 use Rattle.model.specs.Values.{signed}
-use Rattle.model.specs.Syntax.{Atom, Expression, Transfer, Head, Block, SpawnCall, Function}
+use Rattle.model.specs.Syntax.{Atom, Expression, Transfer, Head, Block, SpawnCall, Function, sporkedBy, calledBy}
 use Rattle.model.specs.Read as Read
 use Rattle.model.specs.Read.{Parsed, Parser, byte, many, counted, pick}
 use Rattle.model.proofs.Reading.{bad-ok, ok-value, ok-offset, next-ok, byte-ok, many-uncons, counted-ok}
@@ -336,3 +336,22 @@ signature-is s at F k short e =
     rest n r =
         gives-then any λ b _. gives-then any λ c _. gives-then any λ π̄ _. gives-then any λ B̄ _.
         gives-pure (record { signature = record { parameters = n; returns = r }; spawns = π̄; blocks = B̄ }) refl
+
+-- a transfer of another kind than a spork names no spawn call, and one of another kind than a call no function
+pub no-spork : (kind : ℕ) (s : List ℕ) (at : ℕ) → (kind ≡ 4 → ⊥) → sporkedBy (transferOf kind s at) ≡ []
+unfolding transferOf sporkedBy
+no-spork zero s at h = refl
+no-spork (suc zero) s at h = refl
+no-spork (suc (suc zero)) s at h = refl
+no-spork (suc (suc (suc zero))) s at h = refl
+no-spork (suc (suc (suc (suc zero)))) s at h = absurd (h refl)
+no-spork (suc (suc (suc (suc (suc kind))))) s at h = refl
+
+pub no-call : (kind : ℕ) (s : List ℕ) (at : ℕ) → (kind ≡ 2 → ⊥) → calledBy (transferOf kind s at) ≡ []
+unfolding transferOf calledBy
+no-call zero s at h = refl
+no-call (suc zero) s at h = refl
+no-call (suc (suc zero)) s at h = absurd (h refl)
+no-call (suc (suc (suc zero))) s at h = refl
+no-call (suc (suc (suc (suc zero)))) s at h = refl
+no-call (suc (suc (suc (suc (suc kind))))) s at h = refl

@@ -1,8 +1,8 @@
 -- What the transfer of a block calls: it stands behind the block's statements, and its kind decides.
-use Prim.Native.Nat.{ℕ, zero, suc}
-use mathlib.Core.Path.{_≡_, refl, subst}
+use Prim.Native.Nat.{ℕ}
+use mathlib.Core.Path.{_≡_, subst}
 use mathlib.Core.Option.{some}
-use mathlib.Core.List.{List, []}
+use mathlib.Core.List.{List}
 use lib.ListN.{getElem?}
 use Rattle.model.specs.Syntax.{Program, calledBy}
 use Rattle.model.specs.Pool.{blockIn}
@@ -11,19 +11,9 @@ use Rattle.places.specs.declared.Place.the-variants.{At, Nowhere}
 use Rattle.places.specs.Places.{Places, FindsCode}
 use Rattle.code.specs.Bytes.{byteAt, past}
 use Rattle.code.specs.Code.{statementsEnd, codeEnd, transferOf, transferAt}
-use Rattle.code.proofs.Decoding.{code-is}
+use Rattle.code.proofs.Decoding.{no-call, code-is}
 use Rattle.depth.specs.declared.Called.the-variants.{Function, Nothing, NoBlock}
 use Rattle.depth.specs.Works.{callsIn, FindsCall}
-
--- a transfer of another kind calls nothing
-other : (kind : ℕ) (s : List ℕ) (at : ℕ) → (kind ≡ 2 → ⊥) → calledBy (transferOf kind s at) ≡ []
-unfolding transferOf calledBy
-other zero s at h = refl
-other (suc zero) s at h = refl
-other (suc (suc zero)) s at h = absurd (h refl)
-other (suc (suc (suc zero))) s at h = refl
-other (suc (suc (suc (suc zero)))) s at h = refl
-other (suc (suc (suc (suc (suc kind))))) s at h = refl
 
 module _ (s places : List ℕ) (f b : ℕ) {r : Place} (find : FindsCode places f b r) where
   pub no-block : r ≡ Nowhere → FindsCall s places f b NoBlock
@@ -43,4 +33,4 @@ module _ (s places : List ℕ) (f b : ℕ) {r : Place} (find : FindsCode places 
     calls z d h P p = rw (found P p, z, ← d, ← h)
 
     pub calls-nothing : (kind ≡ 2 → ⊥) → FindsCall s places f b Nothing
-    calls-nothing z P p = rw (found P p, other kind s (past end 1) z)
+    calls-nothing z P p = rw (found P p, no-call kind s (past end 1) z)

@@ -1,7 +1,7 @@
 -- The length field is that of the first four bytes, whatever follows them.
 use Prim.Native.Nat.{ℕ, _+_, _≤_, _<_}
 use mathlib.Core.Path.{_≡_, refl, ap}
-use mathlib.Core.List.{List, [], _++_}
+use mathlib.Core.List.{List, _++_}
 use native.Mathlib.Omega.{arith}
 use lib.ListN.{length, List·getD-append, length-append}
 use Rattle.model.specs.Read.{Parsed, next, byte, half, word, orZero, lengthField}
@@ -58,15 +58,3 @@ module _ (s t : List ℕ) where
 pub same-field : (s t : List ℕ) → 4 ≤ length s → lengthField (s ++ t) ≡ lengthField s
 unfolding lengthField
 same-field s t l = ap orZero (same-word s t l)
-
--- fewer bytes have no length field
-pub no-field : (s : List ℕ) → length s < 4 → lengthField s ≡ 0
-unfolding lengthField orZero word
-no-field s l = go (word s 0) refl
-  where
-    go : (o : Parsed ℕ) → word s 0 ≡ o → orZero o ≡ 0
-    go (Parsed.ok n k) e =
-        let a = next-ok _ _ e in let b = next-ok _ _ (a .then) in
-        let z = after-half s [] 0 (a .first) in
-        let y = inside-half s [] (a .between) (b .first) in absurd (omega arith)
-    go (Parsed.bad place) e = refl

@@ -12,7 +12,7 @@ use lib.ListN.{length}
 use Rattle.model.specs.Numbers as No
 use Rattle.model.specs.Numbers.{Within}
 use Rattle.model.specs.Answers.{Refusal, Answer}
-use Rattle.model.proofs.Facts.{eq-eqb, ne-eqb, le-leb, lt-leb, both-and, true-false}
+use Rattle.model.proofs.Facts.{eq-eqb, ne-eqb, le-leb, lt-leb, both-and, right-false, true-false}
 use Rattle.model.proofs.Numbers as Numbers
 use Rattle.answers.specs.Coded.{given, codeOf}
 use Rattle.host.specs.Macros.{isGiven, value, number, place, block, function}
@@ -45,14 +45,10 @@ small (Refusal.plain n) (inr h) = omega arith
 small (Refusal.byte at) h = omega arith
 small (Refusal.fault n f b) h = omega arith
 
-and-right-false : (a b : Bool) → b ≡ false → (a && b) ≡ false
-and-right-false true b e = e
-and-right-false false b e = refl
-
 -- 3 and 4 to 11 have a place
 unplaced : (n : ℕ) → Within 1 2 n ⊎ Within 12 23 n → (eqb n No.form ≡ false) × ((leb No.main n && leb n No.nesting) ≡ false)
 unplaced n (inl h) = (ne-eqb n No.form (λ e. omega arith), ap (λ (b : Bool). b && leb n No.nesting) (lt-leb No.main n (omega arith)))
-unplaced n (inr h) = (ne-eqb n No.form (λ e. omega arith), and-right-false (leb No.main n) _ (lt-leb n No.nesting (omega arith)))
+unplaced n (inr h) = (ne-eqb n No.form (λ e. omega arith), right-false (leb No.main n) _ (lt-leb n No.nesting (omega arith)))
 
 module _ (r : ℕ) where
   pub plain-in : (n : ℕ) → number r ≡ n → Within 1 2 n ⊎ Within 12 23 n → refusalIn r ≡ Refusal.plain n

@@ -11,7 +11,7 @@ use Rattle.model.specs.Pool.{blockIn}
 use Rattle.code.specs.declared.Opening.{Opening}
 use Rattle.code.specs.Bytes.{byteAt, past}
 use Rattle.code.specs.Code.{run, argumentsAt, headAt, openingAt, spawnAt, spawnEnd, expressionEnd, transferOf, transferAt, blockAt}
-use Rattle.code.proofs.Decoding.{block-is, spawn-is}
+use Rattle.code.proofs.Decoding.{block-is, spawn-is, no-spork, no-call}
 use Rattle.places.specs.declared.Place.{Place}
 use Rattle.places.specs.declared.Place.the-variants.{At, Nowhere}
 use Rattle.places.specs.Places.{Places, spawnIn, FindsBlock, FindsSpawn}
@@ -71,24 +71,6 @@ module _ (s : List ℕ) (at : ℕ) {first kind : ℕ} (f : first ≡ past at 1) 
     targets-spoin z p = same p (sym (ap targets (is-of s at f k) ∙ others kind s first z))
 
 -- the spawn call that a transfer names, if it is a spork
-no-spork : (kind : ℕ) (s : List ℕ) (at : ℕ) → (kind ≡ 4 → ⊥) → sporkedBy (transferOf kind s at) ≡ []
-unfolding transferOf sporkedBy
-no-spork zero s at h = refl
-no-spork (suc zero) s at h = refl
-no-spork (suc (suc zero)) s at h = refl
-no-spork (suc (suc (suc zero))) s at h = refl
-no-spork (suc (suc (suc (suc zero)))) s at h = absurd (h refl)
-no-spork (suc (suc (suc (suc (suc kind))))) s at h = refl
-
-no-call : (kind : ℕ) (s : List ℕ) (at : ℕ) → (kind ≡ 2 → ⊥) → calledBy (transferOf kind s at) ≡ []
-unfolding transferOf calledBy
-no-call zero s at h = refl
-no-call (suc zero) s at h = refl
-no-call (suc (suc zero)) s at h = absurd (h refl)
-no-call (suc (suc (suc zero))) s at h = refl
-no-call (suc (suc (suc (suc zero)))) s at h = refl
-no-call (suc (suc (suc (suc (suc kind))))) s at h = refl
-
 past-past : (at : ℕ) → past at 2 ≡ past (past at 1) 1
 unfolding past
 past-past at = omega arith

@@ -46,6 +46,14 @@ pub both-and : (a b : Bool) → a ≡ true → b ≡ true → (a && b) ≡ true
 both-and true b p q = q
 both-and false b p q = p
 
+pub right-false : (a b : Bool) → b ≡ false → (a && b) ≡ false
+right-false true b q = q
+right-false false b q = refl
+
+pub and-true : (a : Bool) → (a && true) ≡ a
+and-true true = refl
+and-true false = refl
+
 pub left-or : (a b : Bool) → a ≡ true → (a || b) ≡ true
 left-or true b p = refl
 left-or false b p = absurd (false≢true p)
@@ -58,10 +66,6 @@ right-or false b q = q
 pub or-right : (a b : Bool) → a ≡ false → (a || b) ≡ true → b ≡ true
 or-right true b p e = absurd (true≢false p)
 or-right false b p e = e
-
-pub true-not : (b : Bool) → b ≡ true → not b ≡ false
-true-not true p = refl
-true-not false p = sym p
 
 pub false-not : (b : Bool) → b ≡ false → not b ≡ true
 false-not true p = sym p

@@ -114,14 +114,6 @@ module _ {A : Type 0} (p : Parser A) (s : List ℕ) (at : ℕ) where
   unfolding many
   many-fails n e = bad-next (p s at) _ e
 
-  pub goes-down : (n : ℕ) {x : A} {k : ℕ} → 0 < n → p s at ≡ Parsed.ok x k → many p n s at ≡ joined (x ∷ []) (many p (n - 1) s k)
-  goes-down zero h e = absurd (not-suc-le-zero h)
-  goes-down (suc n) h e = let q : suc n - 1 ≡ n = omega arith in rw q (many-goes n e)
-
-  pub fails-down : (n : ℕ) {place : ℕ} → 0 < n → p s at ≡ Parsed.bad place → many p n s at ≡ Parsed.bad place
-  fails-down zero h e = absurd (not-suc-le-zero h)
-  fails-down (suc n) h e = many-fails n e
-
 -- n + 1 items that read: the first, and the rest
 pub record Uncons {A : Type 0} (p : Parser A) (n : ℕ) (s : List ℕ) (at : ℕ) (xs : List A) (k : ℕ) : Type 0 where
   pub item : A
@@ -191,14 +183,7 @@ module _ {A : Type 0} (p : Parser A) where
       ap (joined (u .item ∷ [])) (many-add i n s (u .between) (u .then)) ∙
       joined-joined (u .item) (u .rest) _)
 
-  -- one more item behind those read; and a place where the next does not read is that of them all
-  pub many-snoc : (i : ℕ) (s : List ℕ) (at : ℕ) {xs : List A} {x : A} {k l : ℕ} → many p i s at ≡ Parsed.ok xs k → p s k ≡ Parsed.ok x l
-      → many p (i + 1) s at ≡ Parsed.ok (xs ++ (x ∷ [])) l
-  many-snoc i s at {xs} {x} {k} {l} e d =
-      many-add i 1 s at e
-      ∙ ap (joined xs) (many-goes p s k 0 d ∙ ap (joined (x ∷ [])) (many-ends p s l) ∙ joined-ok _ _ _)
-      ∙ joined-ok _ _ _
-
+  -- a place where the next item does not read is that of them all
   pub many-stops : (i n : ℕ) (s : List ℕ) (at : ℕ) {xs : List A} {k place : ℕ} → many p i s at ≡ Parsed.ok xs k → i < n
       → p s k ≡ Parsed.bad place → many p n s at ≡ Parsed.bad place
   many-stops i n s at {xs} {k} {place} e h d =
@@ -214,24 +199,3 @@ counted-ok most p s at e =
     let c : Byte 0 most s at (b .value) (b .between) = byte-ok 0 most s at _ _ (b .first) in
     let n = many-length p (b .value) s (b .between) (b .then) in
     rw (n, ← c .behind) (c, b .then)
-
--- where reading ends, or the place of the bad byte: what a walk that keeps no values answers
-unfoldable pub offsetOf : {A : Type 0} → Parsed A → Parsed (Unit {0})
-offsetOf (Parsed.ok a k) = Parsed.ok tt k
-offsetOf (Parsed.bad place) = Parsed.bad place
-
-module _ {A : Type 0} where
-  pub offset-joined : (xs : List A) (o : Parsed (List A)) → offsetOf (joined xs o) ≡ offsetOf o
-  unfolding offsetOf joined next
-  offset-joined xs (Parsed.ok ys k) = refl
-  offset-joined xs (Parsed.bad place) = refl
-
-  pub offset-ok : (o : Parsed A) {k : ℕ} → offsetOf o ≡ Parsed.ok tt k → (a : A) × (o ≡ Parsed.ok a k)
-  unfolding offsetOf
-  offset-ok (Parsed.ok a j) e = (a, ap (Parsed.ok a) (ok-offset e))
-  offset-ok (Parsed.bad place) e = bad-ok e
-
-  pub offset-bad : (o : Parsed A) {place : ℕ} → offsetOf o ≡ Parsed.bad place → o ≡ Parsed.bad place
-  unfolding offsetOf
-  offset-bad (Parsed.ok a k) e = bad-ok (sym e)
-  offset-bad (Parsed.bad place) e = cc

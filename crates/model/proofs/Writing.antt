@@ -357,7 +357,7 @@ unfolding Read.lengthField Read.orZero
 stands-field s n k h b = ap Read.orZero (forth law-word s 0 n k h b)
 
 -- the table's length is its program's, and 5 bytes more
-table-length : (P : Program) → length (Write.table P) ≡ 5 + length (Write.program P)
+pub table-length : (P : Program) → length (Write.table P) ≡ 5 + length (Write.program P)
 unfolding Write.table Write.word Write.half
 table-length P = omega arith
 

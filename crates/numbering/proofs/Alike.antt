@@ -9,12 +9,10 @@ use lib.Dec.{eqb}
 use lib.ListN.{getElem?}
 use Rattle.model.specs.Lists.{Each, concat}
 use Rattle.model.specs.Syntax.{Block, SpawnCall, Function, Program, calledBy}
-use Rattle.model.specs.Limits.{Limits}
 use Rattle.model.proofs.Facts.{each-map, each-append, each-at, eqb-true, eqb-false, eq-eqb, ne-eqb}
 use Rattle.numbering.specs.Renamed as Renamed
 use Rattle.numbering.specs.Renamed.{Names}
 use Rattle.numbering.specs.Mentions.{of, targetsOf, targetsIn, spawnsOf, spawnsIn, spawned, spawnedBy, functionsOf, functionsIn}
-use Rattle.numbering.specs.Mentions.{Closed}
 use Rattle.numbering.specs.Renumbers.{Numbering, names, FunctionKept, BlockKept, SpawnKept, Renumbers, Apart}
 use Rattle.numbering.specs.Tidy.{member, mention, mentions, onward, grown, keptBlocks, keptSpawns, mentionedIn, keptFunctions, place}
 use Rattle.numbering.specs.Tidy.{before, picked, namesIn, tidyFunction, tidied}
@@ -22,7 +20,6 @@ use Rattle.numbering.proofs.Agreeing.{block-agrees, spawn-agrees, then,
 use Rattle.numbering.proofs.Lists.{concat-each, mention-each, mentions-each, grown-each, map-at}
 use Rattle.numbering.proofs.Kept.{of-some}
 use Rattle.numbering.proofs.Mentioned.{targets-renamed, spawns-renamed, calls-renamed}
-use Rattle.numbering.proofs.Instance.{tidyNumbers, tidied-renumbers, tidied-apart}
 
 -- h tells apart what is in K
 module _ (h : ℕ → ℕ) (K : ℕ → Type 0) (apart : (x y : ℕ) → K x → K y → h x ≡ h y → x ≡ y) where
@@ -315,7 +312,3 @@ module _ (R : Numbering) (P Q : Program) (S : Renumbers R P Q) (A : Apart R) whe
       picked-same (R .function) (FunctionKept R) (tidyFunction (keptFunctions P)) (tidyFunction (keptFunctions Q)) P Q
       (λ f k. (old f k, new f k, S .copies f k .old, S .copies f k .new, function-same f k)) (keptFunctions P) (keptFunctions Q)
       functions-kept functions-map
-
--- a tidy table is its own tidy table
-pub tidied-again : (P : Program) → Closed P → Limits P → tidied (tidied P) ≡ tidied P
-tidied-again P C L = tidied-alike (tidyNumbers P) P (tidied P) (tidied-renumbers P C L) (tidied-apart P)

@@ -12,7 +12,7 @@ use Rattle.model.specs.Lists.{equal}
 use Rattle.model.specs.Sets.{within}
 use Rattle.model.specs.Tests.{fault}
 use Rattle.model.specs.Check as Check
-use Rattle.model.proofs.Facts.{eq-eqb, ne-eqb}
+use Rattle.model.proofs.Facts.{and-true, eq-eqb, ne-eqb}
 use Rattle.code.specs.Bytes.{byteAt, past}
 use Rattle.code.specs.Code.{run, headIn}
 use Rattle.code.specs.declared.Opening.{Opening}
@@ -34,11 +34,7 @@ equal-lengths (x ∷ xs) (y ∷ ys) h = go (eqb x y) (equal-lengths xs ys (λ e.
 equal-snoc : (xs ys : List ℕ) (x y : ℕ) → length xs ≡ length ys
     → equal (xs ++ (x ∷ [])) (ys ++ (y ∷ [])) ≡ (equal xs ys && eqb x y)
 unfolding equal
-equal-snoc [] [] x y h = go (eqb x y)
-  where
-    go : (b : Bool) → (b && true) ≡ b
-    go true = refl
-    go false = refl
+equal-snoc [] [] x y h = and-true (eqb x y)
 equal-snoc [] (z ∷ ys) x y h = absurd (omega arith)
 equal-snoc (w ∷ xs) [] x y h = absurd (omega arith)
 equal-snoc (w ∷ xs) (z ∷ ys) x y h = go (eqb w z) (equal-snoc xs ys x y (omega arith))

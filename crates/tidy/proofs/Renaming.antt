@@ -15,7 +15,6 @@ use Rattle.model.specs.Read.{Parsed, Parser}
 use Rattle.model.specs.Write as Write
 use Rattle.model.specs.Write.{HoldsExpression, HoldsTransfer}
 use Rattle.model.proofs.Facts.{each-both}
-use Rattle.model.proofs.Reading.{next-ok, byte-ok}
 use Rattle.model.proofs.Undoing.{Law, Between, between-append, between-left, between-right, stands-byte, stands-inside, back, forth}
 use Rattle.model.proofs.Undoing.{law-counted}
 use Rattle.model.proofs.Writing.{law-few, law-arguments, law-half, law-expression, law-statement, law-transfer, law-head, law-block}
@@ -29,6 +28,7 @@ use Rattle.numbering.specs.Renamed as Renamed
 use Rattle.numbering.specs.Renamed.{Names}
 use Rattle.puts.specs.Puts.{Puts}
 use Rattle.puts.proofs.Laws.{then, same}
+use Rattle.transfers.proofs.Blocks.{transfer-inside}
 use Rattle.kept.specs.Kept.{numberIn}
 use Rattle.tidy.specs.Writes.{stretch, renamedTwo, renamedApplied, renamedIf, renamedCall, renamedKind, namesBy}
 use Rattle.tidy.specs.Writes.{PutsTransfer, PutsBlock}
@@ -123,13 +123,6 @@ module _ (N : Names) (s : List ℕ) where
       let m = step (k .on) (k .rest) in
       let n = step (m .on) (m .rest) in
       rw (k .is, m .is, n .is)
-
--- what reads as a transfer begins within s
-transfer-inside : (s : List ℕ) (at : ℕ) (T : Transfer) (e : ℕ) → Read.transfer s at ≡ Parsed.ok T e → at < length s
-unfolding Read.transfer
-transfer-inside s at T e q =
-    let t = next-ok (Read.byte 0 5 s at) _ q in
-    byte-ok 0 5 s at _ _ (t .first) .inside
 
 -- a kind, and what is put behind it: the transfer under the new numbers
 module _ (s functions blocks spawns : List ℕ) (at kind first : ℕ) {d : List ℕ} {k m : ℕ} {d′ : List ℕ} (e : kind ≡ byteAt s at)

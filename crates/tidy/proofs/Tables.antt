@@ -17,7 +17,7 @@ use Rattle.model.proofs.Facts.{le-leb, leb-true, leb-false}
 use Rattle.model.proofs.Guarantees as Guarantees
 use Rattle.model.proofs.Guarantees.{sized-is}
 use Rattle.model.proofs.Accepted.{check-wf}
-use Rattle.model.proofs.Writing.{inverse}
+use Rattle.model.proofs.Writing.{table-length, inverse}
 use Rattle.answers.specs.declared.Answer as Code
 use Rattle.answers.specs.declared.Answer.the-variants.{Given, Refused}
 use Rattle.answers.specs.declared.Refusal as Why
@@ -41,11 +41,6 @@ use Rattle.kept.specs.Kept.{nothing, Lists, KeepsFunctions}
 use Rattle.tidy.specs.declared.Written.the-variants as written
 use Rattle.tidy.specs.Writes.{Writes}
 use Rattle.tidy.specs.Tables.{PutsProgram, Fits, PutsTable}
-
--- a table's length
-table-length : (Q : Program) → length (Write.table Q) ≡ 5 + length (Write.program Q)
-unfolding Write.table Write.word Write.half
-table-length Q = omega arith
 
 -- what stands before the functions: the length and the version
 abbrev head : ℕ → List ℕ

@@ -16,7 +16,7 @@ use Rattle.code.specs.Code.{transferAt, codeEnd}
 use Rattle.code.proofs.Decoding.{decodes-transfer, decodes-code}
 
 -- a transfer begins within the table
-transfer-inside : (s : List ℕ) (at : ℕ) (t : Transfer) (k : ℕ) → Read.transfer s at ≡ Parsed.ok t k → at < length s
+pub transfer-inside : (s : List ℕ) (at : ℕ) (t : Transfer) (k : ℕ) → Read.transfer s at ≡ Parsed.ok t k → at < length s
 unfolding Read.transfer
 transfer-inside s at t k e = let u = next-ok (byte 0 5 s at) _ e in byte-ok 0 5 s at _ _ (u .first) .inside
 

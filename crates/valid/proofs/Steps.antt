@@ -17,7 +17,7 @@ use mir.Facts.{toZ-ofZ}
 use Rattle.model.specs.Lists.{all}
 use Rattle.model.specs.Sets.{has}
 use Rattle.model.specs.Pool.{blank}
-use Rattle.model.proofs.Facts.{true-false, ltb-true, ne-eqb}
+use Rattle.model.proofs.Facts.{true-false, and-true, ltb-true, ne-eqb}
 use Rattle.words.proofs.Wrapping.{zero-test}
 use Rattle.valid.specs.Judged.{beyond, plain, isZero, IsNumber}
 
@@ -41,10 +41,6 @@ not-below w f t = rw (toZ-ofZ f) (go w f (rw (toZ-ofZ f) at t))
 and-assoc : (a b c : Bool) → (a && (b && c)) ≡ ((a && b) && c)
 and-assoc true b c = refl
 and-assoc false b c = refl
-
-and-true : (a : Bool) → (a && true) ≡ a
-and-true true = refl
-and-true false = refl
 
 -- all of a list, from word i on
 module _ (f : ℤ → Bool) (ws : List ℤ) (i : ℕ) (h : all f ws ≡ all f (drop i ws)) where

@@ -14,7 +14,7 @@ use Rattle.model.specs.Syntax.{Program}
 use Rattle.model.specs.Pool.{Frame, Thread, mostFrames, doneAt, openedAt, promotedAt, frameWords, frameCountAt, framesAt, threadWords}
 use Rattle.model.specs.Pool.{frames, born, restacked, begin, wordsOfFrame, threadHead, wordsOfThread, runs, wordAt, countAt, frameOf}
 use Rattle.model.specs.Pool.{threadOf, sameWords, children}
-use Rattle.model.proofs.Facts.{and-left, and-right, both-and, or-right, each-map, eqb-true, eqb-false, eq-eqb, ne-eqb}
+use Rattle.model.proofs.Facts.{and-left, and-right, both-and, right-false, or-right, each-map, eqb-true, eqb-false, eq-eqb, ne-eqb}
 use Rattle.model.specs.Valid.{IsOlder, Settled, Ordered, IsThread, FrameFits, ThreadFits}
 use Rattle.model.proofs.Valid.{thread-facts, facts-thread, Upright, restacked-frames, thread-upright}
 use Rattle.model.proofs.Words.{each-reverse, frame-length, head-length, thread-count, thread-length, same-words, same-words-refl}
@@ -41,10 +41,6 @@ some-promoted w s q =
     pos-of-ne zero f = absurd (f refl)
     pos-of-ne (suc m) f = omega arith
 
-not-both : (a b : Bool) → b ≡ false → (a && b) ≡ false
-not-both true b e = e
-not-both false b e = refl
-
 module _ (P : Program) where
   fine-older : (free : Bool) (ws : List (List ℤ)) → fine P false free ws ≡ true → Older P free ws
   unfolding fine
@@ -66,7 +62,7 @@ module _ (P : Program) where
           sym (n .promoted) ∙ eqb-true (num w promotedAt) (num w openedAt) (or-right free _ f (and-right (a && b) _ e₃)) ∙ n .calls,
           r .settled (rw f refl),
         );
-        order = (λ h. r .settled (not-both free _ (ne-eqb (num w promotedAt) 0 (λ z. omega (arith, n .promoted)))), r .order);
+        order = (λ h. r .settled (right-false free _ (ne-eqb (num w promotedAt) 0 (λ z. omega (arith, n .promoted)))), r .order);
       }
 
   older-fine : (free : Bool) (ws : List (List ℤ)) → Older P free ws → fine P false free ws ≡ true

@@ -3,10 +3,9 @@ use Prim.Native.Nat.{ℕ, zero, suc, _+_, _*_, _≤_, _<_, _^_, _/_, _%_, max}
 use mathlib.Core.Path.{_≡_, refl, _∙_, ap}
 use mathlib.Core.Logic.{_≢_}
 use mathlib.Core.Bool.{Bool, true, false, cond}
-use native.Mathlib.Nat.{pow-suc, mod-eq-of-lt, pow-le-pow-right, div-eq-of-lt}
+use native.Mathlib.Nat.{pow-suc, mod-eq-of-lt, pow-le-pow-right}
 use native.Mathlib.Omega.{arith}
 use lib.Bits.{bitOr, or-step, or-zero-r}
-use lib.Pow.{pow-mono}
 use Rattle.model.specs.Sets.{has, with}
 use Rattle.model.proofs.Facts.{eqb-true, eqb-false}
 use Rattle.model.proofs.Sets.{shift}
@@ -40,11 +39,3 @@ low x h =
 
 pub bind-with : (Γ x : ℕ) → x < 16 → bitOr Γ (1 * 2 ^ x % 65536) ≡ with Γ x
 bind-with Γ x h = ap (bitOr Γ) (low x h) ∙ put Γ x
-
--- a number above a set's bits is not in it
-pub has-none : (n Γ x : ℕ) → Γ < 2 ^ n → n ≤ x → false ≡ has Γ x
-unfolding has
-has-none n Γ x g h =
-    let w : 2 ^ n ≤ 2 ^ x = pow-mono h in
-    let e : Γ / 2 ^ x ≡ 0 = div-eq-of-lt (omega arith) in
-    rw e

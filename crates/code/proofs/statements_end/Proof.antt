@@ -16,15 +16,6 @@ abbrev μ-loop : tie.MeasureT-loop
 loop-holds : tie.Need-loop-holds Inv-loop μ-loop
 loop-holds c = refl
 
-statement-end-requires : tie.Need-statement-end-requires Inv-loop μ-loop
-statement-end-requires c κs = search needs
-
-sub-left : tie.Need-sub-left Inv-loop μ-loop
-sub-left c = search needs
-
-loop-less : tie.Need-loop-less Inv-loop μ-loop
-loop-less c = omega arith
-
 loop-again : tie.Need-loop-again Inv-loop μ-loop
 loop-again c = c .before .before .loop .inv ∙ statements-goes _ _ _ (c .before .loop-test .taken) ∙ rw (c .statement-end .ensures)
 
@@ -34,12 +25,4 @@ returns c = sym (c .before .loop .inv ∙ statements-none _ _ _ (c .loop-test .l
 pub statements-end-spec : {M : Type 1} → statement M
 statements-end-spec =
     tie.close
-    (tie.spec
-    Inv-loop
-    μ-loop
-    loop-holds
-    statement-end-requires
-    sub-left
-    loop-less
-    loop-again
-    returns)
+    (tie.spec Inv-loop μ-loop loop-holds (λ c κs. search needs) (λ c. search needs) (λ c. omega arith) loop-again returns)

@@ -3,15 +3,6 @@ use borrow.Author.Needs.{needs}
 use Rattle.places.proofs.function.Statement.{statement}
 use Rattle.places.proofs.function.Tie as tie
 
-mul-entry : tie.Need-mul-entry
-mul-entry c = search needs
-
-element-copy-out-entry : tie.Need-element-copy-out-entry
-element-copy-out-entry c = search needs
-
-entry-requires : tie.Need-entry-requires
-entry-requires c κs = search needs
-
 returns : tie.Need-returns
 returns c = function-at _ _ (c .entry .ensures) (search needs)
 
@@ -20,4 +11,4 @@ returns-2 c = function-past _ _ (search needs)
 
 pub function-spec : {M : Type 1} → statement M
 function-spec =
-    tie.close (tie.spec mul-entry element-copy-out-entry entry-requires returns returns-2)
+    tie.close (tie.spec (λ c. search needs) (λ c. search needs) (λ c κs. search needs) returns returns-2)

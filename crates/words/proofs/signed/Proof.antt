@@ -5,25 +5,9 @@ use borrow.Author.Needs.{needs}
 use Rattle.words.proofs.signed.Statement.{statement}
 use Rattle.words.proofs.signed.Tie as tie
 
--- src/lib.rt:27:9
-cast-result : tie.Need-cast-result
-cast-result c = search needs
-
--- src/lib.rt:29:16
-sub-result : tie.Need-sub-result
-sub-result c = search needs
-
--- src/lib.rt:29:15
-cast-result-2 : tie.Need-cast-result-2
-cast-result-2 c = search needs
-
 -- src/lib.rt:29:9
 sub-result-2 : tie.Need-sub-result-2
 sub-result-2 c = rw (flipped _ (c .before .fits .n .fits) (c .if1 .left)) (sfits-toZ (c .before .fits .n))
-
--- src/lib.rt:23:1
-returns : tie.Need-returns
-returns c = search needs
 
 -- src/lib.rt:23:1
 returns-2 : tie.Need-returns-2
@@ -31,4 +15,4 @@ returns-2 c = rw (flipped _ (c .before .fits .n .fits) (c .if1 .left)) (toZ-ofZ 
 
 pub signed-spec : {M : Type 1} → statement M
 signed-spec =
-    tie.close (tie.spec cast-result sub-result cast-result-2 sub-result-2 returns returns-2)
+    tie.close (tie.spec (λ c. search needs) (λ c. search needs) (λ c. search needs) sub-result-2 (λ c. search needs) returns-2)
