@@ -1,17 +1,17 @@
 /* Mezdaulk: Spork IR tables checked, and the pool that runs them.
  *
  * Every call answers a uint64_t. With bit 32 set the call is given, and its value stands in the low 32 bits. Otherwise it is
- * refused: the number stands in bits 0 to 7; for 3 the offset of the first bad byte in bits 8 to 31; for 4 to 11 the block in
- * bits 8 to 15 (255 for main's fault or a spawn call) and the function in bits 16 to 23. The macros below read such an answer;
- * each evaluates its argument once.
+ * refused: the number stands in bits 0 to 7; for 3 the offset of the first bad byte in bits 8 to 31; for 4 to 11, 25 and 26 the
+ * block in bits 8 to 15 (255 for main's fault, a spawn call or a whole function) and the function in bits 16 to 23. The macros below
+ * read such an answer; each evaluates its argument once.
  *
  * A table is any bytes and a pool any words: nothing outside the lent memory is read or written, and every call returns. Tables,
  * schedules and pools that are only asked about are never written. No call keeps anything: calls on different pools may run at
  * the same time; two calls on one pool may not, if either of them writes it. Lent regions that a call writes must not overlap
  * others of the same call.
  *
- * A pointer with a count beside it (table, pool, choices, out) must be valid for that many items and aligned for their type. With a
- * count of 0 it may be anything, NULL too. values and made have no count and must be valid in every call.
+ * A pointer with a count beside it (table, pool, choices, out, scratch) must be valid for that many items and aligned for their type.
+ * With a count of 0 it may be anything, NULL too. values and made have no count and must be valid in every call.
  */
 #ifndef MEZDAULK_H
 #define MEZDAULK_H
@@ -32,19 +32,23 @@ extern "C" {
 /* A pool's length in words. */
 #define MEZDAULK_POOL_WORDS 1673
 
+/* The length of the output of mezdaulk_complete in bytes, and the least length of its scratch in words. */
+#define MEZDAULK_OUTPUT_BYTES 16384
+#define MEZDAULK_SCRATCH_WORDS 1024
+
 /* An answer is given (1), or it is a refusal (0). */
 #define MEZDAULK_GIVEN(answer) ((int)(((uint64_t)(answer) >> 32) & 1u))
 
 /* The value of a given answer. */
 #define MEZDAULK_VALUE(answer) ((uint32_t)((uint64_t)(answer) & 0xFFFFFFFFu))
 
-/* The number of a refusal, 1 to 23; the place of a 3; the function and the block of 4 to 11. */
+/* The number of a refusal, 1 to 26; the place of a 3; the function and the block of 4 to 11, 25 and 26. */
 #define MEZDAULK_NUMBER(answer) ((unsigned)((uint64_t)(answer) & 0xFFu))
 #define MEZDAULK_PLACE(answer) ((unsigned)(((uint64_t)(answer) >> 8) & 0xFFFFFFu))
 #define MEZDAULK_BLOCK(answer) ((unsigned)(((uint64_t)(answer) >> 8) & 0xFFu))
 #define MEZDAULK_FUNCTION(answer) ((unsigned)(((uint64_t)(answer) >> 16) & 0xFFu))
 
-/* The block of a fault that lies in none: main's, or a spawn call's. */
+/* The block of a fault that lies in none: main's, a spawn call's, or a whole function's. */
 #define MEZDAULK_NOWHERE 255u
 
 /* The kinds of a choice. */
@@ -56,8 +60,8 @@ extern "C" {
 #define MEZDAULK_OPEN 255u
 
 /* The numbers of refusals: of the table, */
-#define MEZDAULK_REFUSED_SIZE 1u      /* the table has fewer than 6 or more than 16,384 bytes, or another length field */
-#define MEZDAULK_REFUSED_VERSION 2u   /* the table's version is not 1 */
+#define MEZDAULK_REFUSED_SIZE 1u      /* the table has under 6 bytes or over 16,384 (12,800 to complete), or another length field */
+#define MEZDAULK_REFUSED_VERSION 2u   /* the table's version is not 1 (2 to complete) */
 #define MEZDAULK_REFUSED_FORM 3u      /* a byte of the table is out of range, missing or left over */
 /* of the check, */
 #define MEZDAULK_REFUSED_MAIN 4u      /* main has parameters */
@@ -82,8 +86,12 @@ extern "C" {
 #define MEZDAULK_REFUSED_THREADS 21u  /* there is something to promote, but eight threads are there already */
 /* of the depth, */
 #define MEZDAULK_REFUSED_CYCLE 22u    /* some function reaches itself by calls */
-/* and of the tidy table. */
+/* of the tidy table, */
 #define MEZDAULK_REFUSED_ROOM 23u     /* the output is shorter than the tidy table */
+/* and of a completion. */
+#define MEZDAULK_REFUSED_LENT 24u       /* the scratch has fewer than 1,024 words, or the output has not 16,384 bytes */
+#define MEZDAULK_REFUSED_UNREACHED 25u  /* no transfer from its function's entry reaches a block */
+#define MEZDAULK_REFUSED_IMPOSSIBLE 26u /* no scopes and nestings make a function well formed */
 
 /* The rules that a choice makes: 1 to 9 by a step, 10 by a promotion. */
 #define MEZDAULK_RULE_STMT 1u     /* a statement */
@@ -122,6 +130,16 @@ uint64_t mezdaulk_depth(const uint8_t *table, size_t bytes);
  * accepted, and its own tidy table; put to pools started from either table, every list of choices gets the same answers. Refused: 1 to
  * 11 as by the check; 23 where room is less than that length; out is then as it was. table and out must not overlap. */
 uint64_t mezdaulk_tidy(const uint8_t *table, size_t bytes, uint8_t *out, size_t room);
+
+/* Completes a table of version 2, which has neither the scope nor the nesting of any block, and at most 12,800 bytes: writes it as a
+ * table of version 1 with the smallest scopes that there are at the start of out, which has 16,384 bytes, and 0 behind it. Every block
+ * must be reached by transfers from its function's entry, and some scopes and nestings must pass the check. scratch has 1,024 words or
+ * more, whatever they hold. Given: the length of the completed table; the check accepts it, and the scopes of every other table that
+ * differs from it in scopes and nestings alone and is accepted contain its own. Refused: 1 to 3 and 24, and out and scratch are then as
+ * they were; 25 for the lowest function and block that is not reached, and 26 for the lowest function, with block 255, that no scopes
+ * and nestings make pass, and out is then as it was. Where it is given or 25 or 26, the first 1,024 words of scratch are 0 afterwards;
+ * further ones are as they were. table, out and scratch must not overlap. Every other call gives a table of version 2 its 2. */
+uint64_t mezdaulk_complete(const uint8_t *table, size_t bytes, uint8_t *out, size_t room, uint32_t *scratch, size_t words);
 
 /* Makes 1,673 words, whatever they hold, a fresh pool of a table that reads. Given: 0. Refused: 1 to 3, 12; the words are then
  * as they were. */

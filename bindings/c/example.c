@@ -1,5 +1,5 @@
-/* Checks table B of document 01, writes it afresh, and runs it: the spork's call is promoted and joined, and main returns 7. Each answer is
- * printed and held to what it must be; the status is 1 if one is another. */
+/* Checks table B of document 01, writes it afresh, completes it from what has no scopes and nestings, and runs it: the spork's call is
+ * promoted and joined, and main returns 7. Each answer is printed and held to what it must be; the status is 1 if one is another. */
 #include <inttypes.h>
 #include <stdio.h>
 #include <string.h>
@@ -11,6 +11,13 @@ static const uint8_t table[] = {
     0x01, 0x00, 0x00, 0x00, 0x00, 0x01, 0x00, 0x00, 0x05, 0x02, 0x03, 0x00, 0x00, 0x00, 0x00, 0x01, 0x00, 0x00,
     0x00, 0x00, 0x00, 0x00, 0x01, 0x03, 0x01, 0x00, 0x01, 0x00, 0x00, 0x00, 0x00, 0x00, 0x03, 0x01, 0x00, 0x00,
     0x01, 0x01, 0x00, 0x00, 0x00, 0x00, 0x00, 0x01, 0x00, 0x00, 0x00, 0x00, 0x00, 0x00, 0x07, 0x03, 0x01, 0x00,
+};
+
+/* B in version 2. */
+static const uint8_t brief[] = {
+    0x00, 0x00, 0x00, 0x38, 0x02, 0x02, 0x00, 0x01, 0x04, 0x01, 0x01, 0x00, 0x00, 0x00, 0x04, 0x01, 0x00, 0x00, 0x00,
+    0x05, 0x02, 0x03, 0x00, 0x01, 0x00, 0x00, 0x00, 0x00, 0x00, 0x00, 0x01, 0x03, 0x01, 0x00, 0x01, 0x00, 0x00, 0x03,
+    0x01, 0x00, 0x00, 0x01, 0x01, 0x00, 0x00, 0x01, 0x00, 0x00, 0x00, 0x00, 0x00, 0x00, 0x07, 0x03, 0x01, 0x00,
 };
 
 static int wrong = 0;
@@ -43,6 +50,30 @@ static void four(const int32_t found[4], int32_t first) {
     }
 }
 
+/* B is completed from version 2, which every other call refuses; a damaged one is refused with its place. */
+static void complete(void) {
+    static uint8_t out[MEZDAULK_OUTPUT_BYTES];
+    static uint32_t scratch[MEZDAULK_SCRATCH_WORDS];
+    uint8_t damaged[sizeof brief];
+    uint64_t answer;
+    size_t k;
+    refused("check of version 2", mezdaulk_check(brief, sizeof brief), MEZDAULK_REFUSED_VERSION);
+    answer = mezdaulk_complete(brief, sizeof brief, out, sizeof out, scratch, MEZDAULK_SCRATCH_WORDS - 1);
+    refused("complete with too few words", answer, MEZDAULK_REFUSED_LENT);
+    answer = mezdaulk_complete(brief, sizeof brief, out, sizeof out, scratch, MEZDAULK_SCRATCH_WORDS);
+    given("complete", answer, (uint32_t)sizeof table);
+    hold("the completed table, which is B,", memcmp(out, table, sizeof table), 0);
+    for (k = sizeof table; k < sizeof out; k++) {
+        hold("a byte behind it", out[k], 0);
+    }
+    memcpy(damaged, brief, sizeof brief);
+    damaged[21] = 2; /* both sides of the spoin */
+    answer = mezdaulk_complete(damaged, sizeof damaged, out, sizeof out, scratch, MEZDAULK_SCRATCH_WORDS);
+    refused("complete with a block that is not reached", answer, MEZDAULK_REFUSED_UNREACHED);
+    hold("the function", MEZDAULK_FUNCTION(answer), 0);
+    hold("the block", MEZDAULK_BLOCK(answer), 3);
+}
+
 int main(void) {
     static int32_t pool[MEZDAULK_POOL_WORDS];
     uint8_t damaged[sizeof table];
@@ -65,6 +96,7 @@ int main(void) {
     refused("tidy with too little room", mezdaulk_tidy(table, bytes, tidy, bytes - 1), MEZDAULK_REFUSED_ROOM);
     given("tidy", mezdaulk_tidy(table, bytes, tidy, sizeof tidy), (uint32_t)bytes);
     hold("the tidy table, which B is already,", memcmp(tidy, table, bytes), 0);
+    complete();
 
     refused("start with no words", mezdaulk_start(table, bytes, NULL, 0), MEZDAULK_REFUSED_WORDS);
     given("start", mezdaulk_start(table, bytes, pool, words), 0);

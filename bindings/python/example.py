@@ -1,6 +1,6 @@
 #!/usr/bin/env python3
-"""Checks table B of document 01, writes it afresh, and runs it, through the shared object: the spork's call is promoted and joined, and
-main returns 7.
+"""Checks table B of document 01, writes it afresh, completes it from what has no scopes and nestings, and runs it, through the shared
+object: the spork's call is promoted and joined, and main returns 7.
 
 example.py [LIBRARY]; without it MEZDAULK_LIBRARY is taken, or target/make/libmezdaulk.so of this repository, which make builds. Each
 answer is printed and held to what it must be; the status is 1 if one is another.
@@ -12,10 +12,13 @@ import sys
 
 # The header's names.
 POOL_WORDS = 1673
+OUTPUT_BYTES, SCRATCH_WORDS = 16384, 1024
+NOWHERE = 255
 STEP, PROMOTE = 0, 1
 NO_THREAD = 8
 OPEN = 255
-REFUSED_FORM, REFUSED_WORDS, REFUSED_ENDED, REFUSED_WAITS, REFUSED_ROOM = 3, 12, 16, 17, 23
+REFUSED_VERSION, REFUSED_FORM, REFUSED_WORDS, REFUSED_ENDED, REFUSED_WAITS, REFUSED_ROOM = 2, 3, 12, 16, 17, 23
+REFUSED_LENT, REFUSED_UNREACHED, REFUSED_IMPOSSIBLE = 24, 25, 26
 RULE_SPORK, RULE_PROMOTE = 7, 10
 
 
@@ -35,6 +38,14 @@ def PLACE(answer):
     return answer >> 8 & 0xFFFFFF
 
 
+def BLOCK(answer):
+    return answer >> 8 & 0xFF
+
+
+def FUNCTION(answer):
+    return answer >> 16 & 0xFF
+
+
 class Choice(ctypes.Structure):
     """A choice of a schedule: a kind and a thread, counted from 0."""
 
@@ -43,6 +54,7 @@ class Choice(ctypes.Structure):
 
 Values = ctypes.c_int32 * 4
 TABLE = [ctypes.POINTER(ctypes.c_uint8), ctypes.c_size_t]
+SCRATCH = [ctypes.POINTER(ctypes.c_uint32), ctypes.c_size_t]
 POOL = [ctypes.POINTER(ctypes.c_int32), ctypes.c_size_t]
 CHOICES = [ctypes.POINTER(Choice), ctypes.c_size_t]
 
@@ -52,6 +64,7 @@ CALLS = {
     "mezdaulk_check": TABLE,
     "mezdaulk_depth": TABLE,
     "mezdaulk_tidy": TABLE + TABLE,
+    "mezdaulk_complete": TABLE + TABLE + SCRATCH,
     "mezdaulk_start": TABLE + POOL,
     "mezdaulk_choose": TABLE + POOL + [ctypes.c_uint32, ctypes.c_uint32],
     "mezdaulk_which": TABLE + POOL,
@@ -67,6 +80,17 @@ TABLE_B = bytes.fromhex(
     "01 00 0000 00 00 03 01 00"
     "00 01 01 00"
     "00 0000 00 01 00 00 00 00000007 03 01 00"
+)
+
+# The same without scopes and nestings, in version 2.
+BRIEF_B = bytes.fromhex(
+    "00000038 02 02 00010401 01 00"
+    "00 00 04 01 00"
+    "00 00 05 02 03"
+    "00 01 00 00 00 00000001 03 01 00"
+    "01 00 00 03 01 00"
+    "00 01 01 00"
+    "00 01 00 00 00 00000007 03 01 00"
 )
 
 
@@ -134,6 +158,26 @@ def tidy(lib, held):
         held.hold("the tidy table", bytes(out[:room]), TABLE_B)
 
 
+def complete(lib, held):
+    """B is completed from version 2, which every other call refuses; what cannot be completed is refused with its place."""
+    out = (ctypes.c_uint8 * OUTPUT_BYTES)(*[9] * OUTPUT_BYTES)
+    scratch = (ctypes.c_uint32 * SCRATCH_WORDS)(*[9] * SCRATCH_WORDS)
+    held.refused("check of version 2", lib.mezdaulk_check(*lent(BRIEF_B)), REFUSED_VERSION)
+    answer = lib.mezdaulk_complete(*lent(BRIEF_B), out, len(out) - 1, scratch, len(scratch))
+    held.refused("complete with another output", answer, REFUSED_LENT)
+    for at, byte, number, block in ((21, 2, REFUSED_UNREACHED, 3), (16, 1, REFUSED_IMPOSSIBLE, NOWHERE)):
+        damaged = bytearray(BRIEF_B)
+        damaged[at] = byte
+        answer = lib.mezdaulk_complete(*lent(damaged), out, len(out), scratch, len(scratch))
+        held.refused("complete of a damaged table", answer, number)
+        held.hold("the place", (FUNCTION(answer), BLOCK(answer)), (0, block))
+        held.hold("the output", bytes(out), bytes([9] * OUTPUT_BYTES))
+    answer = lib.mezdaulk_complete(*lent(BRIEF_B), out, len(out), scratch, len(scratch))
+    held.given("complete", answer, len(TABLE_B))
+    held.hold("the output", bytes(out), TABLE_B + bytes(OUTPUT_BYTES - len(TABLE_B)))
+    held.hold("the scratch", list(scratch), [0] * SCRATCH_WORDS)
+
+
 def run(lib, held):
     """A pool is started and run to its result."""
     table = lent(TABLE_B)
@@ -166,6 +210,7 @@ def main():
     lib = library(path)
     judge(lib, held)
     tidy(lib, held)
+    complete(lib, held)
     run(lib, held)
     return 1 if held.wrong else 0
 

@@ -8,6 +8,7 @@
 #include <sys/mman.h>
 #include <unistd.h>
 
+#include "brief_b.h"
 #include "line.h"
 #include "mezdaulk.h"
 #include "table_b.h"
@@ -66,6 +67,10 @@ static const struct mezdaulk_choice *choices;
 static size_t count;
 static uint8_t *out;
 static size_t room;
+static const uint8_t *brief;
+static size_t brief_bytes;
+static uint32_t *scratch;
+static size_t scratch_words;
 
 /* What a call on the table, on the table and the output, and on the table and the pool answers where it is refused for them; or what is
  * due otherwise. */
@@ -120,6 +125,34 @@ static void nothing_at(uintptr_t address) {
     }
 }
 
+/* The completion, with what is lent now. */
+static void completion(void) {
+    const int right = room == MEZDAULK_OUTPUT_BYTES && scratch_words >= MEZDAULK_SCRATCH_WORDS;
+    const uint64_t answer = mezdaulk_complete(brief, brief_bytes, out, room, scratch, scratch_words);
+    if (brief_bytes == 0) {
+        hold("complete", answer, REFUSED(MEZDAULK_REFUSED_SIZE));
+    } else {
+        hold("complete", answer, right ? GIVEN(sizeof table_b) : REFUSED(MEZDAULK_REFUSED_LENT));
+    }
+}
+
+/* The same for a completion. */
+static void nothing_to_complete_at(uintptr_t address) {
+    static uint8_t some_output[MEZDAULK_OUTPUT_BYTES];
+    static uint32_t some_scratch[MEZDAULK_SCRATCH_WORDS];
+    int which;
+    for (which = 0; which < 8; which++) {
+        const int has_table = which & 1, has_output = which & 2, has_scratch = which & 4;
+        brief = has_table ? brief_b : (const uint8_t *)address;
+        brief_bytes = has_table ? sizeof brief_b : 0;
+        out = has_output ? some_output : (uint8_t *)address;
+        room = has_output ? sizeof some_output : 0;
+        scratch = has_scratch ? some_scratch : (uint32_t *)address;
+        scratch_words = has_scratch ? MEZDAULK_SCRATCH_WORDS : 0;
+        completion();
+    }
+}
+
 /* A run of B with all that is lent at fences: promoted and joined, with the result 7. */
 static void run_fenced(enum side side) {
     static const struct mezdaulk_choice run[] = {
@@ -170,6 +203,110 @@ static void tidy_fenced(enum side side, const uint8_t *given, size_t length, con
     }
 }
 
+/* So many of the bytes have another value than this, from the first on. */
+static size_t others(const unsigned char *first, size_t count, unsigned char value) {
+    size_t k, found = 0;
+    for (k = 0; k < count; k++) {
+        found += first[k] != value;
+    }
+    return found;
+}
+
+/* B completed with outputs and scratches at fences, of the right lengths and of others. What is not written stays. */
+static void complete_fenced(enum side side) {
+    const size_t rooms[] = {0, MEZDAULK_OUTPUT_BYTES - 1, MEZDAULK_OUTPUT_BYTES, MEZDAULK_OUTPUT_BYTES + 1};
+    const size_t counts[] = {0, MEZDAULK_SCRATCH_WORDS - 1, MEZDAULK_SCRATCH_WORDS, MEZDAULK_SCRATCH_WORDS + 1};
+    const size_t used = MEZDAULK_SCRATCH_WORDS * sizeof(uint32_t);
+    size_t i, k;
+    brief = place(fenced(sizeof brief_b), side, brief_b, sizeof brief_b);
+    brief_bytes = sizeof brief_b;
+    for (i = 0; i < sizeof rooms / sizeof rooms[0]; i++) {
+        const struct fenced bytes_fence = fenced(rooms[i]);
+        for (k = 0; k < sizeof counts / sizeof counts[0]; k++) {
+            const struct fenced words_fence = fenced(counts[k] * sizeof(uint32_t));
+            size_t written = 0, cleared = 0;
+            room = rooms[i];
+            scratch_words = counts[k];
+            memset(bytes_fence.first, 0xA5, bytes_fence.room);
+            memset(words_fence.first, 0xA5, words_fence.room);
+            out = place(bytes_fence, side, NULL, room);
+            scratch = place(words_fence, side, NULL, counts[k] * sizeof(uint32_t));
+            completion();
+            if (room == MEZDAULK_OUTPUT_BYTES && scratch_words >= MEZDAULK_SCRATCH_WORDS) {
+                hold("the completed table", (uint64_t)(memcmp(out, table_b, sizeof table_b) != 0), 0);
+                hold("what is behind it", others(out + sizeof table_b, room - sizeof table_b, 0), 0);
+                hold("the scratch", others((unsigned char *)scratch, used, 0), 0);
+                written = room;
+                cleared = used;
+            }
+            hold("the output and its room", others(bytes_fence.first, bytes_fence.room, 0xA5),
+                 written == 0 ? 0 : others(out, written, 0xA5));
+            hold("the scratch and its room", others(words_fence.first, words_fence.room, 0xA5), cleared);
+            hold("the table", (uint64_t)(memcmp(brief, brief_b, sizeof brief_b) != 0), 0);
+        }
+    }
+}
+
+/* B completed at 25 and 26: the scratch is cleared, and the output stays. */
+static void not_completed_fenced(enum side side) {
+    static const struct {
+        size_t at;
+        uint8_t byte;
+        uint64_t due;
+    } damages[] = {{21, 2, MEZDAULK_REFUSED_UNREACHED + 256 * 3}, {16, 1, MEZDAULK_REFUSED_IMPOSSIBLE + 256 * MEZDAULK_NOWHERE}};
+    const size_t used = MEZDAULK_SCRATCH_WORDS * sizeof(uint32_t);
+    const struct fenced bytes_fence = fenced(MEZDAULK_OUTPUT_BYTES), words_fence = fenced(used);
+    uint8_t *o = place(bytes_fence, side, NULL, MEZDAULK_OUTPUT_BYTES);
+    uint32_t *s = place(words_fence, side, NULL, used);
+    size_t k;
+    for (k = 0; k < 2; k++) {
+        uint8_t damaged[sizeof brief_b];
+        const uint8_t *t;
+        memcpy(damaged, brief_b, sizeof brief_b);
+        damaged[damages[k].at] = damages[k].byte;
+        t = place(fenced(sizeof damaged), side, damaged, sizeof damaged);
+        memset(bytes_fence.first, 0xA5, bytes_fence.room);
+        memset(words_fence.first, 0xA5, words_fence.room);
+        hold("a completion that is refused", mezdaulk_complete(t, sizeof damaged, o, MEZDAULK_OUTPUT_BYTES, s, MEZDAULK_SCRATCH_WORDS),
+             damages[k].due);
+        hold("the output", others(bytes_fence.first, bytes_fence.room, 0xA5), 0);
+        hold("the scratch", others((unsigned char *)s, used, 0), 0);
+    }
+}
+
+/* Every beginning of B in version 2, likewise. */
+static void brief_beginnings(enum side side) {
+    const struct fenced fence = fenced(sizeof brief_b);
+    uint8_t cut[sizeof brief_b];
+    size_t length;
+    memcpy(cut, brief_b, sizeof brief_b);
+    for (length = 0; length < sizeof brief_b; length++) {
+        const uint64_t due = length < 6 ? REFUSED(MEZDAULK_REFUSED_SIZE) : REFUSED(MEZDAULK_REFUSED_FORM) + 256 * length;
+        const uint8_t *t;
+        cut[3] = (uint8_t)length;
+        t = place(fence, side, cut, length);
+        hold("complete of a beginning", mezdaulk_complete(t, length, NULL, 0, NULL, 0), due);
+        hold("check of a beginning in version 2", mezdaulk_check(t, length),
+             length < 6 ? REFUSED(MEZDAULK_REFUSED_SIZE) : REFUSED(MEZDAULK_REFUSED_VERSION));
+    }
+}
+
+/* Every line of functions, completed from version 2 at a fence. */
+static void brief_lines(enum side side) {
+    const struct fenced fence = fenced(LINE_ROOM);
+    static uint8_t completed[MEZDAULK_OUTPUT_BYTES];
+    static uint32_t words_of_it[MEZDAULK_SCRATCH_WORDS];
+    uint8_t cells[LINE_ROOM], full[LINE_ROOM];
+    unsigned functions;
+    for (functions = 1; functions <= LINE_FUNCTIONS; functions++) {
+        const size_t due = line(full, functions, 0), short_of = brief_line(cells, functions);
+        const uint8_t *t = place(fence, side, cells, short_of);
+        hold("completion of a line", mezdaulk_complete(t, short_of, completed, sizeof completed, words_of_it, MEZDAULK_SCRATCH_WORDS),
+             GIVEN(due));
+        hold("the completed line", (uint64_t)(memcmp(completed, full, due) != 0), 0);
+    }
+}
+
 /* Every beginning of B, with its own length in the length field: a byte is missing, behind the fence. */
 static void beginnings(enum side side) {
     const struct fenced fence = fenced(sizeof table_b);
@@ -207,12 +344,18 @@ int main(void) {
     int side;
     nothing_at(0);
     nothing_at(1);
+    nothing_to_complete_at(0);
+    nothing_to_complete_at(1);
     for (side = 0; side < SIDES; side++) {
         run_fenced((enum side)side);
         tidy_fenced((enum side)side, table_b, sizeof table_b, table_b, sizeof table_b);
         tidy_fenced((enum side)side, untidy_b, sizeof untidy_b, table_b, sizeof table_b);
         beginnings((enum side)side);
         lines((enum side)side);
+        complete_fenced((enum side)side);
+        not_completed_fenced((enum side)side);
+        brief_beginnings((enum side)side);
+        brief_lines((enum side)side);
     }
     printf("lent: %d passed, %d failed\n", passed, failed);
     return failed != 0;

@@ -30,3 +30,25 @@ static size_t line(uint8_t table[LINE_ROOM], unsigned functions, int closed) {
     table[5] = (uint8_t)functions;
     return bytes;
 }
+
+/* Writes an open line in version 2, and gives its length. */
+static size_t brief_line(uint8_t table[LINE_ROOM], unsigned functions) {
+    static const uint8_t calls[] = {0, 0, 2, 0, 0, 0, 2, 0, 0, 1, 0, 0, 3, 0};
+    static const uint8_t returns[] = {0, 0, 1, 0, 0, 0, 3, 0};
+    size_t bytes = 6;
+    unsigned f;
+    for (f = 1; f < functions; f++) {
+        memcpy(table + bytes, calls, sizeof calls);
+        table[bytes + 7] = (uint8_t)f;
+        bytes += sizeof calls;
+    }
+    memcpy(table + bytes, returns, sizeof returns);
+    bytes += sizeof returns;
+    table[0] = 0;
+    table[1] = 0;
+    table[2] = (uint8_t)(bytes >> 8);
+    table[3] = (uint8_t)bytes;
+    table[4] = 2;
+    table[5] = (uint8_t)functions;
+    return bytes;
+}

@@ -77,6 +77,41 @@ pub fn tidy(table: &[u8], out: &mut [u8]) -> Result<usize, Refusal> {
     .map(|length| length as usize)
 }
 
+/// Completes a table of version 2, which has neither the scope nor the nesting of any block: writes it as a table of version 1 with the
+/// smallest scopes, and 0 behind it, and gives its length. `out` has [`OUTPUT_BYTES`](crate::OUTPUT_BYTES) bytes and `scratch` at least
+/// [`SCRATCH_WORDS`](crate::SCRATCH_WORDS) words, whatever they hold. [`complete`](crate::complete()) gives it in bytes of its own.
+/// Refused, and nothing is written: 1 to 3, 24. Refused: 25 for the lowest block that transfers from its function's entry do not reach;
+/// 26 for the lowest function that no scopes and nestings make well formed. Given or after 25 and 26 the first 1,024 words of `scratch` are
+/// 0, and further ones as they were; `out` is written only where it is given.
+///
+/// ```
+/// use mezdaulk::{lent, Reason, OUTPUT_BYTES, SCRATCH_WORDS};
+///
+/// // Main goes to a block that returns.
+/// let table = [0, 0, 0, 19, 2, 1, 0, 0, 2, 0, 0, 0, 0, 1, 0, 0, 0, 3, 0];
+/// let (mut out, mut scratch) = (vec![9; OUTPUT_BYTES], vec![9; SCRATCH_WORDS + 1]);
+/// let refusal = lent::complete(&table, &mut out, &mut scratch[..SCRATCH_WORDS - 1]).unwrap_err();
+/// assert_eq!(refusal.reason(), Reason::Lent);
+/// assert_eq!(lent::complete(&table, &mut out, &mut scratch), Ok(25));
+/// assert_eq!(out[..25], [0, 0, 0, 25, 1, 1, 0, 0, 2, 0, 0, 0, 0, 0, 0, 0, 1, 0, 0, 0, 0, 0, 0, 3, 0]);
+/// assert!(out[25..].iter().all(|&byte| byte == 0));
+/// assert_eq!((scratch[0], scratch[SCRATCH_WORDS]), (0, 9));
+/// ```
+pub fn complete(table: &[u8], out: &mut [u8], scratch: &mut [u32]) -> Result<usize, Refusal> {
+    // Safety: all three slices are valid for their lengths, and those that are lent for writing overlap no other.
+    answered(unsafe {
+        raw::mezdaulk_complete(
+            table.as_ptr(),
+            table.len(),
+            out.as_mut_ptr(),
+            out.len(),
+            scratch.as_mut_ptr(),
+            scratch.len(),
+        )
+    })
+    .map(|length| length as usize)
+}
+
 /// Makes the words a fresh pool of the table. Refused: 1 to 3, 12.
 pub fn start(table: &[u8], pool: &mut [i32]) -> Result<(), Refusal> {
     // Safety: both slices are valid for their lengths, and the pool is lent for writing alone.

@@ -1,8 +1,10 @@
 //! Spork IR tables checked, and the pool that runs them: a safe wrapper of the library.
 //!
-//! [`check`] says yes or no to a table, [`depth`] how many frames its calls can need, and [`tidy`](tidy()) writes it afresh for the
-//! archive; [`Pool::start`] makes a pool of it, and [`Pool::choose`] or [`Pool::schedule`] runs it.
-//! A call that is refused has changed nothing, except that a schedule keeps what the choices before the refused one made.
+//! [`check`] says yes or no to a table, [`depth`] how many frames its calls can need, [`tidy`](tidy()) writes it afresh for the
+//! archive, and [`complete`](complete()) makes one of a table without scopes and nestings; [`Pool::start`] makes a pool of it, and
+//! [`Pool::choose`] or [`Pool::schedule`] runs it.
+//! A call that is refused has changed nothing, except that a schedule keeps what the choices before the refused one made, and that a
+//! completion refused with 25 or 26 leaves its scratch as words of 0.
 //!
 //! ```
 //! use mezdaulk::{check, Pool, Reason, Rule};
@@ -29,6 +31,7 @@
 
 #![deny(missing_docs)]
 
+mod complete;
 pub mod lent;
 mod numbers;
 mod pool;
@@ -36,6 +39,7 @@ pub mod raw;
 mod refusal;
 mod tidy;
 
+pub use complete::{complete, OUTPUT_BYTES, SCRATCH_WORDS};
 pub use lent::{check, depth, read};
 pub use numbers::{Kind, Reason, Rule, Unknown};
 pub use pool::{Pool, Values};

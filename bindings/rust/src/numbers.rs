@@ -70,8 +70,8 @@ macro_rules! numbered {
 numbered! {
     /// Why a call was refused: the numbers of documents 01 and 02.
     Reason {
-        Size = 1, "the table has fewer than 6 or more than 16,384 bytes, or another length field";
-        Version = 2, "the table's version is not 1";
+        Size = 1, "the table has under 6 bytes or over 16,384 (12,800 to complete), or another length field";
+        Version = 2, "the table's version is not 1 (2 to complete)";
         Form = 3, "a byte of the table is out of range, missing or left over";
         Main = 4, "main has parameters";
         Entry = 5, "an entry block has parameters, a nesting, or another scope than its function's parameters";
@@ -93,6 +93,9 @@ numbered! {
         Threads = 21, "there is something to promote, but eight threads are there already";
         Cycle = 22, "some function reaches itself by calls";
         Room = 23, "the output is shorter than the tidy table";
+        Lent = 24, "the scratch has fewer than 1,024 words, or the output has not 16,384 bytes";
+        Unreached = 25, "no transfer from its function's entry reaches a block";
+        Impossible = 26, "no scopes and nestings make a function well formed";
     }
 }
 

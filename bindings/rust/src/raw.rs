@@ -49,6 +49,16 @@ extern "C" {
     /// Writes the tidy table.
     pub fn mezdaulk_tidy(table: *const u8, bytes: usize, out: *mut u8, room: usize) -> u64;
 
+    /// Completes a table of version 2.
+    pub fn mezdaulk_complete(
+        table: *const u8,
+        bytes: usize,
+        out: *mut u8,
+        room: usize,
+        scratch: *mut u32,
+        words: usize,
+    ) -> u64;
+
     /// Makes the words a fresh pool.
     pub fn mezdaulk_start(table: *const u8, bytes: usize, pool: *mut i32, words: usize) -> u64;
 

@@ -16,7 +16,7 @@ pub enum Place {
         /// The block.
         block: u8,
     },
-    /// A function, and no block of it: main's own fault, or a spawn call's.
+    /// A function, and no block of it: main's own fault, a spawn call's, or the whole function's.
     Function(u8),
 }
 
@@ -46,12 +46,12 @@ impl Refusal {
         self.reason
     }
 
-    /// The number, 1 to 23.
+    /// The number, 1 to 26.
     pub const fn number(self) -> u8 {
         self.reason.number()
     }
 
-    /// The place of 3 to 11; the others have none.
+    /// The place of 3 to 11, 25 and 26; the others have none.
     pub const fn place(self) -> Option<Place> {
         self.place
     }
@@ -67,17 +67,17 @@ impl Refusal {
     /// The refusal in a number that the library answered.
     fn of(answer: u64) -> Self {
         let reason =
-            Reason::try_from(answer as u8).expect("the library refuses with one of 1 to 23");
+            Reason::try_from(answer as u8).expect("the library refuses with one of 1 to 26");
         let place = match reason.number() {
             3 => Some(Place::Byte((answer >> 8 & 0xFF_FFFF) as usize)),
-            4..=11 => Some(fault(answer)),
+            4..=11 | 25 | 26 => Some(fault(answer)),
             _ => None,
         };
         Refusal { reason, place }
     }
 }
 
-/// The place of 4 to 11.
+/// The place of 4 to 11, 25 and 26.
 fn fault(answer: u64) -> Place {
     let function = (answer >> 16) as u8;
     match (answer >> 8) as u8 {

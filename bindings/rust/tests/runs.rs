@@ -1,7 +1,8 @@
 //! Runs of tables A and B of document 01, stored pools, and the numbers by name.
 
 use mezdaulk::{
-    check, depth, lent, read, tidy, Choice, Kind, Place, Pool, Reason, Refusal, Rule, Unknown,
+    check, complete, depth, lent, read, tidy, Choice, Kind, Place, Pool, Reason, Refusal, Rule,
+    Unknown, OUTPUT_BYTES, SCRATCH_WORDS,
 };
 
 /// One statement, and the result 5.
@@ -222,6 +223,59 @@ fn tidy_runs() {
     assert_eq!(*pool.values(table).unwrap().unwrap(), [7]);
 }
 
+/// B without its scopes and nestings.
+const BRIEF_B: [u8; 56] = [
+    0, 0, 0, 0x38, 2, 2, 0, 1, 4, 1, 1, 0, 0, 0, 4, 1, 0, 0, 0, 5, 2, 3, 0, 1, 0, 0, 0, 0, 0, 0, 1,
+    3, 1, 0, 1, 0, 0, 3, 1, 0, 0, 1, 1, 0, 0, 1, 0, 0, 0, 0, 0, 0, 7, 3, 1, 0,
+];
+
+#[test]
+fn completed_tables() {
+    assert_eq!(complete(&BRIEF_B), Ok(B.to_vec()));
+    assert_eq!(reason(read(&BRIEF_B)), Reason::Version);
+    assert_eq!(reason(complete(&B)), Reason::Version);
+    // The scratch is 0 afterwards but for what is more than 1,024 words; the output is 0 behind the table.
+    let (mut out, mut scratch) = (vec![9; OUTPUT_BYTES + 1], vec![9; SCRATCH_WORDS + 1]);
+    let lent = lent::complete(&BRIEF_B, &mut out[..OUTPUT_BYTES], &mut scratch);
+    assert_eq!(lent, Ok(B.len()));
+    assert_eq!((&out[..B.len()], out[OUTPUT_BYTES]), (&B[..], 9));
+    assert!(out[B.len()..OUTPUT_BYTES].iter().all(|&byte| byte == 0));
+    assert!(scratch[..SCRATCH_WORDS].iter().all(|&word| word == 0));
+    assert_eq!(scratch[SCRATCH_WORDS], 9);
+    assert_eq!(reason(complete(&[0; 20_000])), Reason::Size);
+}
+
+#[test]
+fn tables_that_are_not_completed() {
+    let (fresh, words) = (vec![9; OUTPUT_BYTES + 1], vec![9; SCRATCH_WORDS]);
+    for (room, count) in [
+        (OUTPUT_BYTES - 1, SCRATCH_WORDS),
+        (OUTPUT_BYTES + 1, SCRATCH_WORDS),
+        (OUTPUT_BYTES, SCRATCH_WORDS - 1),
+        (0, 0),
+    ] {
+        let (mut out, mut scratch) = (fresh.clone(), words.clone());
+        let refused = lent::complete(&BRIEF_B, &mut out[..room], &mut scratch[..count]);
+        let lent = refused.unwrap_err();
+        assert_eq!((lent.reason(), lent.place()), (Reason::Lent, None));
+        assert_eq!((out, scratch), (fresh.clone(), words.clone()));
+    }
+    // Both sides of the spoin are block 2, and nothing reaches block 3; the spork opens a spawn call that there is not.
+    let (mut unreached, mut impossible) = (BRIEF_B, BRIEF_B);
+    unreached[21] = 2;
+    impossible[16] = 1;
+    for (table, due) in [
+        (unreached, "no transfer from its function's entry reaches a block (refusal 25, function 0, block 3)"),
+        (impossible, "no scopes and nestings make a function well formed (refusal 26, function 0)"),
+    ] {
+        let (mut out, mut scratch) = (fresh.clone(), words.clone());
+        let refused = lent::complete(&table, &mut out[..OUTPUT_BYTES], &mut scratch);
+        assert_eq!(refused.unwrap_err().to_string(), due);
+        assert_eq!(out, fresh);
+        assert!(scratch.iter().all(|&word| word == 0));
+    }
+}
+
 #[test]
 fn as_many_values_as_main_returns() {
     let two = [
@@ -250,7 +304,7 @@ fn words_of_another_number() {
 #[test]
 fn numbers_by_name() {
     let reasons: Vec<u8> = Reason::ALL.iter().map(|r| r.number()).collect();
-    assert_eq!(reasons, (1..=23).collect::<Vec<u8>>());
+    assert_eq!(reasons, (1..=26).collect::<Vec<u8>>());
     let rules: Vec<u8> = Rule::ALL.iter().map(|&rule| rule.into()).collect();
     assert_eq!(rules, (1..=10).collect::<Vec<u8>>());
     for &reason in Reason::ALL {
@@ -259,7 +313,7 @@ fn numbers_by_name() {
     for &rule in Rule::ALL {
         assert_eq!(Rule::try_from(rule.number()), Ok(rule));
     }
-    assert_eq!(Reason::try_from(24), Err(Unknown(24)));
+    assert_eq!(Reason::try_from(27), Err(Unknown(27)));
     assert_eq!(Rule::try_from(0), Err(Unknown(0)));
     assert_eq!(Kind::try_from(1), Ok(Kind::Promote));
     assert_eq!(Choice::new(Kind::Promote, 3), Choice { kind: 1, thread: 3 });

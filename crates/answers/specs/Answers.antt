@@ -1,9 +1,12 @@
--- The code's refusal and answer as the model's, with document 01's number and place.
+-- The code's refusal and answers as the model's, with document 01's number and place.
+use Prim.Native.Nat.{ℕ}
 use Rattle.model.specs.Answers as Model
 use Rattle.answers.specs.declared.Refusal.{Refusal}
 use Rattle.answers.specs.declared.Refusal.the-variants.{Plain, Byte, Fault}
 use Rattle.answers.specs.declared.Answer.{Answer}
 use Rattle.answers.specs.declared.Answer.the-variants.{Given, Refused}
+use Rattle.answers.specs.declared.Written.{Written}
+use Rattle.answers.specs.declared.Written.the-variants as written
 
 abbrev pub refusalOf : Refusal → Model.Refusal
 refusalOf (Plain n) = Model.Refusal.plain n
@@ -13,3 +16,7 @@ refusalOf (Fault n f b) = Model.Refusal.fault n f b
 abbrev pub answerOf : Answer → Model.Answer (Unit {0})
 answerOf Given = Model.Answer.given tt
 answerOf (Refused r) = Model.Answer.refused (refusalOf r)
+
+abbrev pub writtenOf : Written → Model.Answer ℕ
+writtenOf (written.Bytes n) = Model.Answer.given n
+writtenOf (written.Refused why) = Model.Answer.refused (refusalOf why)

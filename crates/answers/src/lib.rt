@@ -59,6 +59,13 @@ impl No {
 
     // the tidy table
     pub const ROOM: u8 = 23;
+
+    // a completion
+    pub const LENT: u8 = 24;
+
+    pub const UNREACHED: u8 = 25;
+
+    pub const IMPOSSIBLE: u8 = 26;
 }
 
 // The rules of figure 3.
@@ -86,7 +93,7 @@ impl Rule {
     pub const PROMOTE: u8 = 10;
 }
 
-// A refusal: the number alone; 3 with the offset of the first bad byte; 4 to 11 with the function and the block.
+// A refusal: the number alone; 3 with the offset of the first bad byte; 4 to 11, 25 and 26 with the function and the block.
 pub enum Refusal {
     Plain(u8),
     Byte(usize),
@@ -99,6 +106,12 @@ pub enum Answer {
     Refused(Refusal),
 }
 
+// The answer of a call that writes a table: how many bytes it has.
+pub enum Written {
+    Bytes(u32),
+    Refused(Refusal),
+}
+
 // 3, with the offset of the first bad byte.
 fn bad_byte(at: usize) -> u64
     ensures { λ n. ⌜ n ≡ codeOf (Model.Refusal.byte at) ⌝ }
@@ -106,7 +119,7 @@ fn bad_byte(at: usize) -> u64
     (No::FORM as u64) + 256 * ((at % 16777216) as u64)
 }
 
-// 4 to 11, with the function and the block.
+// 4 to 11, 25 and 26, with the function and the block.
 fn fault(number: u8, function: usize, block: usize) -> u64
     ensures { λ n. ⌜ n ≡ codeOf (Model.Refusal.fault number function block) ⌝ }
 {

@@ -53,7 +53,7 @@ seen-out true e h z = let y : _≡_ {A = ℕ} 0 1 = cc in absurd (omega arith)
 seen-out false e h z = refl
 
 -- atoms
-value-uses : (s : List ℕ) (at : ℕ) → byteAt s at ≡ 0 → usesAtom (atomAt s at) ≡ []
+pub value-uses : (s : List ℕ) (at : ℕ) → byteAt s at ≡ 0 → usesAtom (atomAt s at) ≡ []
 unfolding atomAt atomOf usesAtom
 value-uses s at h = rw h
 
@@ -62,7 +62,7 @@ unfolding atomOf usesAtom
 by-kind zero v x h = absurd (h refl)
 by-kind (suc k) v x h = refl
 
-temporary-uses : (s : List ℕ) (at : ℕ) → (byteAt s at ≡ 0 → ⊥) → usesAtom (atomAt s at) ≡ byteAt s (past at 1) ∷ []
+pub temporary-uses : (s : List ℕ) (at : ℕ) → (byteAt s at ≡ 0 → ⊥) → usesAtom (atomAt s at) ≡ byteAt s (past at 1) ∷ []
 unfolding atomAt
 temporary-uses s at h = by-kind (byteAt s at) _ (byteAt s (past at 1)) h
 
@@ -83,14 +83,14 @@ module _ (s : List ℕ) (at Γ : ℕ) {b f : ℕ} (q : f ≡ past at 1) (e : b �
     atom-out w = rw (single, w)
 
 -- expressions: by their number of operands
-uses-one : (k : ℕ) (m n : Atom) → (operands k ≡ 2 → ⊥) → uses (expressionOf k m n) ≡ usesAtom m
+pub uses-one : (k : ℕ) (m n : Atom) → (operands k ≡ 2 → ⊥) → uses (expressionOf k m n) ≡ usesAtom m
 unfolding operands expressionOf uses
 uses-one zero m n h = refl
 uses-one (suc zero) m n h = refl
 uses-one (suc (suc zero)) m n h = absurd (h refl)
 uses-one (suc (suc (suc k))) m n h = absurd (h refl)
 
-uses-two : (k : ℕ) (m n : Atom) → operands k ≡ 2 → uses (expressionOf k m n) ≡ usesAtom m ++ usesAtom n
+pub uses-two : (k : ℕ) (m n : Atom) → operands k ≡ 2 → uses (expressionOf k m n) ≡ usesAtom m ++ usesAtom n
 unfolding operands expressionOf uses
 uses-two zero m n h = absurd (omega arith)
 uses-two (suc zero) m n h = absurd (omega arith)

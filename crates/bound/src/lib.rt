@@ -29,14 +29,14 @@ impl Set {
 }
 
 // Is x in the set?
-fn holds(set: u16, x: u8) -> bool
+pub fn holds(set: u16, x: u8) -> bool
     ensures { λ r. ⌜ r ≡ holds set x ⌝ }
 {
     (set >> (x % Set::BITS)) % 2 == 1
 }
 
 // The set with x.
-fn bind(set: u16, x: u8) -> u16
+pub fn bind(set: u16, x: u8) -> u16
     ensures { λ r. ⌜ r ≡ binding set x ⌝ }
 {
     set | (1 << (x % Set::BITS))

@@ -14,7 +14,7 @@ use Rattle.model.specs.Read.{Parsed, Parser, byte, many, counted, pick}
 use Rattle.model.proofs.Reading.{bad-ok, ok-value, ok-offset, next-ok, byte-ok, many-uncons, counted-ok}
 use Rattle.code.specs.Bytes.{byteAt, past, halfAt, wordAt, operands}
 use Rattle.code.specs.Code.{run, countAt, argumentsAt, listEnd, atomOf, atomAt, atomEnd, expressionOf, secondAt, expressionAt}
-use Rattle.code.specs.Code.{expressionEnd, statementAt, statementEnd, statementsAt, statementsEnd, nestingAt, headAt, headEnd}
+use Rattle.code.specs.Code.{expressionEnd, statementAt, statementEnd, statementsAt, statementsEnd, nestingAt, headAt, bareAt, headEnd}
 use Rattle.code.specs.Code.{spawnAt, spawnEnd, signatureAt, transferOf, transferAt, transferEndOf, transferEnd, codeAt, codeEnd}
 use Rattle.code.specs.Code.{coded, blockAt, blockEnd}
 use Rattle.model.proofs.Guarantees.{Gives, gives-then, gives-pure}
@@ -265,6 +265,12 @@ decodes-head =
     decodes-then (λ Γ s at. record { parameters = x̄; scope = Γ; nesting = argumentsAt s at }) (λ Γ s at. listEnd s at) decodes-half λ Γ.
     decodes-then (λ ρ s at. record { parameters = x̄; scope = Γ; nesting = ρ }) (λ ρ s at. at) (decodes-list 4 0 255 (omega arith)) λ ρ.
     decodes-pure (record { parameters = x̄; scope = Γ; nesting = ρ })
+
+pub decodes-bare : Decodes Read.bare bareAt listEnd
+unfolding Read.bare bareAt
+decodes-bare =
+    decodes-then (λ x̄ s at. record { parameters = x̄; scope = 0; nesting = [] }) (λ x̄ s at. at) decodes-arguments λ x̄.
+    decodes-pure (record { parameters = x̄; scope = 0; nesting = [] })
 
 -- what reads begins within the table
 arguments-inside : (s : List ℕ) (at : ℕ) (x̄ : List ℕ) (k : ℕ) → Read.arguments s at ≡ Parsed.ok x̄ k → at < length s

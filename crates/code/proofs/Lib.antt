@@ -3,3 +3,4 @@ pub mod Numbers
 pub mod Counts
 pub mod Ends
 pub mod Decoding
+pub mod Targets

@@ -83,6 +83,10 @@ headAt s at =
       nesting = argumentsAt s (nestingAt s at);
     }
 
+-- a block's head in version 2, which ends with its parameters
+unfoldable pub bareAt : List ℕ → ℕ → Head
+bareAt s at = record { parameters = argumentsAt s at; scope = 0; nesting = [] }
+
 unfoldable pub headEnd : List ℕ → ℕ → ℕ
 headEnd s at = listEnd s (nestingAt s at)
 

@@ -9,13 +9,20 @@ ghost use Rattle.code.specs.Bytes.{byteAt, past, halfAt, wordAt, operand
 ghost use Rattle.code.specs.Code.{most, countAt, listEnd, atomEnd, expressionEnd, statementEnd, statementsEnd, openingAt};
 ghost use Rattle.code.specs.Code.{headEnd, spawnEnd, transferEndOf, transferEnd};
 
-// Where a table has its number of functions, behind its length and its version; and the version.
+// Where a table has its number of functions, behind its length and its version; the version, and how long a table may be; and both of
+// a brief table, which has the heads of its blocks without scope and nesting.
 pub struct Table {}
 
 impl Table {
     pub const FUNCTIONS_AT: usize = 5;
 
     pub const VERSION: u8 = 1;
+
+    pub const MOST: usize = 16384;
+
+    pub const BRIEF: u8 = 2;
+
+    pub const BRIEF_MOST: usize = 12800;
 }
 
 // The byte at an offset.

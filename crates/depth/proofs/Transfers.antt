@@ -17,7 +17,7 @@ use Rattle.depth.specs.Works.{callsIn, FindsCall}
 
 module _ (s places : List ℕ) (f b : ℕ) {r : Place} (find : FindsCode places f b r) where
   pub no-block : r ≡ Nowhere → FindsCall s places f b NoBlock
-  no-block e P p = rw (subst (FindsCode places f b) e find s P p)
+  no-block e P p = rw (subst (FindsCode places f b) e find s P _ p)
 
   module _ {at k n end kind : ℕ} (e : r ≡ At at) (e₁ : k ≡ past at 1) (e₂ : n ≡ byteAt s at) (e₃ : end ≡ statementsEnd s k n)
       (e₄ : kind ≡ byteAt s end) where
@@ -25,7 +25,7 @@ module _ (s places : List ℕ) (f b : ℕ) {r : Place} (find : FindsCode places 
         → callsIn (blockIn (getElem? P f) b) ≡ some (calledBy (transferOf kind s (past end 1)))
     unfolding transferAt codeEnd
     found P p =
-        let (B, q, t) = subst (FindsCode places f b) e find s P p in
+        let (B, q, t) = subst (FindsCode places f b) e find s P _ p in
         rw (q, code-is s (t .at) B (t .block .behind) at (p .short) (t .block .is) (t .head), ← e₂, ← e₁, ← e₃, ← e₄)
 
     pub calls : {l g : ℕ} → kind ≡ 2 → l ≡ past end 1 → g ≡ byteAt s l → FindsCall s places f b (Function g)

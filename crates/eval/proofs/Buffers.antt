@@ -1,24 +1,20 @@
 -- Values over the first words of a buffer: those of an argument list, as far as its temporaries are bound.
-use Prim.Native.Nat.{ℕ, zero, suc, _+_, _-_, _≤_}
+use Prim.Native.Nat.{ℕ, _+_, _-_, _≤_}
 use mathlib.Core.Path.{_≡_, refl, sym, ap}
 use mathlib.Core.Option.{Option, none, some}
 use mathlib.Core.List.{List, [], _∷_}
 use native.Mathlib.Omega.{arith}
 use lib.IntN.{ℤ, pos}
 use lib.ListN.{length, take, drop, replicate, take-append-drop}
-use lib.Seq.{drop-nil, length-take-le, take-append-seam}
+use lib.Seq.{length-take-le, take-append-seam}
 use Rattle.model.specs.Lists.{pad}
 use Rattle.model.specs.Pool as Pool
 use Rattle.model.specs.Frames as Frames
 use Rattle.model.specs.Frames.{look, lookAll}
+use Rattle.model.proofs.Facts.{drop-replicate}
 use Rattle.words.specs.Runs.{pasted}
 use Rattle.code.specs.Code.{most}
 use Rattle.eval.specs.Given.{valuesAs, lookedOf, lookedAs, andOn, boundPart, filled}
-
-drop-replicate : (n k : ℕ) → drop k (replicate n (pos 0)) ≡ replicate (n - k) (pos 0)
-drop-replicate zero k = let z : 0 - k ≡ 0 = omega arith in rw z (drop-nil k)
-drop-replicate (suc n) zero = let z : suc n - 0 ≡ suc n = omega arith in rw z
-drop-replicate (suc n) (suc k) = let z : suc n - suc k ≡ n - k = omega arith in rw z (drop-replicate n k)
 
 module _ (k : Pool.Frame) where
   -- the part that is bound: one more, none, and all
@@ -66,7 +62,7 @@ module _ (k : Pool.Frame) where
   unfolding filled pasted pad
   filled-zeros x̄ v̄ e =
       let z : 0 + length v̄ ≡ length v̄ = omega arith in
-      rw (bound-all x̄ v̄ e, z, drop-replicate most (length v̄))
+      rw (bound-all x̄ v̄ e, z, drop-replicate most (length v̄) (pos 0))
 
 -- values as the code has them, and what they say
 pub looked-of : (o : Option (List ℤ)) → lookedOf (lookedAs o) ≡ o

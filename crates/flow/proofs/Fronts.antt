@@ -10,7 +10,7 @@ use lib.Seq.{take-append-seam, drop-append-seam}
 use Rattle.model.specs.Numbers as No
 use Rattle.model.specs.Answers.{Refusal, Answer, with}
 use Rattle.model.specs.Syntax.{Program}
-use Rattle.model.specs.Read.{lengthField, sized, readFrom}
+use Rattle.model.specs.Read.{lengthField, sized, readAs}
 use Rattle.model.specs.Read as Read
 use Rattle.model.specs.Calls.{accepted}
 use Rattle.model.proofs.Facts.{refused-given, true-false, and-left, and-right, both-and, or-right, leb-true, leb-false, le-leb}
@@ -23,7 +23,7 @@ abbrev tooBad : Answer Program
 tooBad = Answer.refused (Refusal.plain No.size)
 
 pub unsized : (t : List ℕ) → sized t (lengthField t) ≡ false → accepted t ≡ tooBad
-unfolding accepted Read.read readFrom with
+unfolding accepted Read.read readAs with
 unsized t e = rw e refl
 
 -- the front of an input that its length field says, where that is a table of the right size

@@ -1,8 +1,8 @@
 -- What the macros read in the number of an answer is that answer.
 use Prim.Native.Nat.{ℕ, _+_, _^_, _/_, _%_, _≤_, _<_}
-use mathlib.Core.Path.{_≡_, refl, ap}
+use mathlib.Core.Path.{_≡_, refl}
 use mathlib.Core.Logic.{_⊎_, inl, inr}
-use mathlib.Core.Bool.{Bool, true, false, _&&_}
+use mathlib.Core.Bool.{true, false}
 use mathlib.Core.Option.{Option, none, some}
 use mathlib.Core.List.{List}
 use native.Mathlib.Omega.{arith}
@@ -17,7 +17,7 @@ use Rattle.model.proofs.Numbers as Numbers
 use Rattle.answers.specs.Coded.{given, codeOf}
 use Rattle.host.specs.Macros.{isGiven, value, number, place, block, function}
 use Rattle.host.specs.Exports.{done, asNumber, stepperOf, counted}
-use Rattle.host.specs.Laws.{refusalIn, answerIn}
+use Rattle.host.specs.Laws.{placed, refusalIn, answerIn}
 
 -- a number with bit 32, and one without
 pub given-is : (v : ℕ) → v < 2 ^ 32 → isGiven (given v) ≡ true
@@ -35,23 +35,45 @@ given-in v h = rw (given-is v h, given-value v h)
 
 -- a refusal that a number has room for
 abbrev pub Fits : Refusal → Type 0
-Fits (Refusal.plain n) = Within 1 2 n ⊎ Within 12 23 n
+Fits (Refusal.plain n) = Within 1 2 n ⊎ Within 12 24 n
 Fits (Refusal.byte at) = at ≤ 16384
-Fits (Refusal.fault n f b) = Within 4 11 n × (f < 16) × (b < 256)
+Fits (Refusal.fault n f b) = (Within 4 11 n ⊎ Within 25 26 n) × (f < 16) × (b < 256)
 
 pub small : (q : Refusal) → Fits q → codeOf q < 2 ^ 32
 small (Refusal.plain n) (inl h) = omega arith
 small (Refusal.plain n) (inr h) = omega arith
 small (Refusal.byte at) h = omega arith
-small (Refusal.fault n f b) h = omega arith
+small (Refusal.fault n f b) (inl w, i, j) = omega arith
+small (Refusal.fault n f b) (inr w, i, j) = omega arith
 
--- 3 and 4 to 11 have a place
-unplaced : (n : ℕ) → Within 1 2 n ⊎ Within 12 23 n → (eqb n No.form ≡ false) × ((leb No.main n && leb n No.nesting) ≡ false)
-unplaced n (inl h) = (ne-eqb n No.form (λ e. omega arith), ap (λ (b : Bool). b && leb n No.nesting) (lt-leb No.main n (omega arith)))
-unplaced n (inr h) = (ne-eqb n No.form (λ e. omega arith), right-false (leb No.main n) _ (lt-leb n No.nesting (omega arith)))
+-- 3, 4 to 11, 25 and 26 have a place
+unplaced : (n : ℕ) → Within 1 2 n ⊎ Within 12 24 n → (eqb n No.form ≡ false) × (placed n ≡ false)
+unfolding placed
+unplaced n (inl h) = (
+  ne-eqb n No.form (λ e. omega arith),
+  rw (lt-leb No.main n (omega arith), lt-leb No.unreached n (omega arith)),
+)
+unplaced n (inr h) = (
+  ne-eqb n No.form (λ e. omega arith),
+  rw (right-false (leb No.main n) _ (lt-leb n No.nesting (omega arith)), lt-leb No.unreached n (omega arith)),
+)
+
+is-placed : (n : ℕ) → Within 4 11 n ⊎ Within 25 26 n → (eqb n No.form ≡ false) × (placed n ≡ true)
+unfolding placed
+is-placed n (inl h) = (
+  ne-eqb n No.form (λ e. omega arith),
+  rw (both-and (leb No.main n) _ (le-leb No.main n (h .0)) (le-leb n No.nesting (h .1))),
+)
+is-placed n (inr h) = (
+  ne-eqb n No.form (λ e. omega arith),
+  rw (
+    right-false (leb No.main n) _ (lt-leb n No.nesting (omega arith)),
+    both-and (leb No.unreached n) _ (le-leb No.unreached n (h .0)) (le-leb n No.impossible (h .1)),
+  ),
+)
 
 module _ (r : ℕ) where
-  pub plain-in : (n : ℕ) → number r ≡ n → Within 1 2 n ⊎ Within 12 23 n → refusalIn r ≡ Refusal.plain n
+  pub plain-in : (n : ℕ) → number r ≡ n → Within 1 2 n ⊎ Within 12 24 n → refusalIn r ≡ Refusal.plain n
   unfolding refusalIn
   plain-in n e h = let (p, q) = unplaced n h in rw (e, p, q)
 
@@ -59,20 +81,17 @@ module _ (r : ℕ) where
   unfolding refusalIn
   byte-in at e p = rw (e, p)
 
-  fault-in : (n f b : ℕ) → number r ≡ n → Within 4 11 n → function r ≡ f → block r ≡ b → refusalIn r ≡ Refusal.fault n f b
+  fault-in : (n f b : ℕ) → number r ≡ n → Within 4 11 n ⊎ Within 25 26 n → function r ≡ f → block r ≡ b →
+      refusalIn r ≡ Refusal.fault n f b
   unfolding refusalIn
-  fault-in n f b e h i j =
-      let p : eqb n No.form ≡ false = ne-eqb n No.form (λ e. omega arith) in
-      let q : (leb No.main n && leb n No.nesting) ≡ true =
-      both-and (leb No.main n) _ (le-leb No.main n (h .0)) (le-leb n No.nesting (h .1))
-      in
-      rw (e, p, q, i, j)
+  fault-in n f b e h i j = let (p, q) = is-placed n h in rw (e, p, q, i, j)
 
 pub refusal-in : (q : Refusal) → Fits q → refusalIn (codeOf q) ≡ q
 refusal-in (Refusal.plain n) (inl h) = plain-in n n (omega arith) (inl h)
 refusal-in (Refusal.plain n) (inr h) = plain-in n n (omega arith) (inr h)
 refusal-in (Refusal.byte at) h = byte-in _ at (omega arith) (omega arith)
-refusal-in (Refusal.fault n f b) h = fault-in _ n f b (omega arith) (h .0) (omega arith) (omega arith)
+refusal-in (Refusal.fault n f b) (inl w, i, j) = fault-in _ n f b (omega arith) (inl w) (omega arith) (omega arith)
+refusal-in (Refusal.fault n f b) (inr w, i, j) = fault-in _ n f b (omega arith) (inr w) (omega arith) (omega arith)
 
 pub refused-in : (q : Refusal) → Fits q → answerIn (codeOf q) ≡ Answer.refused q
 unfolding answerIn

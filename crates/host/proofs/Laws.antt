@@ -34,6 +34,7 @@ use Rattle.numbering.specs.Tidy.{Wrote, put, tidy}
 use Rattle.numbering.specs.Means.{Tidies}
 use Rattle.numbering.proofs.Answers.{put-fits, put-short}
 use Rattle.numbering.proofs.Theorem.{tidy-means}
+use Rattle.inference.proofs.Theorem.{completion-means}
 use Rattle.host.specs.Macros.{isGiven, value, number, block, function}
 use Rattle.host.specs.Exports.{done, asNumber, stepperOf, counted, over, written}
 use Rattle.host.specs.Contracts.{Read, Check, Depth, Tidy, Start, Choose, Schedule, Which, Values}
@@ -43,19 +44,11 @@ use Rattle.host.specs.Laws.{ReadTells, CheckTells, DepthTells, TidyTells
 use Rattle.host.specs.Laws.{ValuesTells}
 use Rattle.host.proofs.Codes.{Fits, Gave, Refused, done-code, number-code, stepper-code, counted-code, thread, count}
 use Rattle.host.proofs.Codes.{given-in, refused-in, valued, tells, gave, refused}
+use Rattle.host.proofs.Tables.{table-fits, table-told}
+use Rattle.host.proofs.Completion.{complete-law}
 use Rattle.host.proofs.Macros.{read-given, read-refused, done-read, stopped-read, read-done}
 
 -- what the model can refuse fits into a number, and what the macros then read
-table-fits : {s : List ℕ} (q : Refusal) → Numbers.OfTable s q → Fits q
-table-fits _ Numbers.OfTable.size = inl (lit≤ tt, lit≤ tt)
-table-fits _ Numbers.OfTable.version = inl (lit≤ tt, lit≤ tt)
-table-fits _ (Numbers.OfTable.form l w) = omega arith
-
-table-told : {s : List ℕ} {q : Refusal} → Numbers.OfTable s q → OfTable s (codeOf q)
-table-told Numbers.OfTable.size = record { numbered = (lit≤ tt, lit≤ tt); placed = λ e. absurd (omega arith) }
-table-told Numbers.OfTable.version = record { numbered = (lit≤ tt, lit≤ tt); placed = λ e. absurd (omega arith) }
-table-told (Numbers.OfTable.form l w) = record { numbered = (omega arith, omega arith); placed = λ _. (omega arith, w) }
-
 start-fits : {s : List ℕ} (q : Refusal) → Numbers.OfStart s q → Fits q
 start-fits _ (Numbers.OfStart.table h) = table-fits _ h
 start-fits _ Numbers.OfStart.words = inr (lit≤ tt, lit≤ tt)
@@ -103,13 +96,13 @@ lies {s} {P} e =
     }
 
 fault-fits : {s : List ℕ} {P : Program} → Lies s P → (q : Refusal) → Numbers.Faults P q → Fits q
-fault-fits h _ Numbers.Faults.main = ((lit≤ tt, lit≤ tt), lit≤ tt, lit≤ tt)
-fault-fits h _ (Numbers.Faults.spawn l (inl e)) = ((omega arith, omega arith), omega arith, lit≤ tt)
-fault-fits h _ (Numbers.Faults.spawn l (inr e)) = ((omega arith, omega arith), omega arith, lit≤ tt)
+fault-fits h _ Numbers.Faults.main = (inl (lit≤ tt, lit≤ tt), lit≤ tt, lit≤ tt)
+fault-fits h _ (Numbers.Faults.spawn l (inl e)) = (inl (omega arith, omega arith), omega arith, lit≤ tt)
+fault-fits h _ (Numbers.Faults.spawn l (inr e)) = (inl (omega arith, omega arith), omega arith, lit≤ tt)
 fault-fits {s} {P} h _ (Numbers.Faults.block {f = f} g l w) =
     let i = at-below P f g in
     let j = h .blocks f g in
-    ((omega arith, omega arith), omega arith, omega arith)
+    (inl (omega arith, omega arith), omega arith, omega arith)
 
 in-program : {s : List ℕ} {r : ℕ} → Within No.main No.nesting (number r) → Placed r → function r < getD s 5 0 → getD s 5 0 ≤ 16
     → OfProgram s r
@@ -574,6 +567,7 @@ laws =
       check = check-law;
       depth = depth-law;
       tidy = tidy-law;
+      complete = complete-law completion-means;
       start = start-law;
       choose = choose-law;
       schedule = schedule-law;

@@ -1,5 +1,7 @@
 pub mod Codes
 pub mod Counts
+pub mod Tables
+pub mod Completion
 pub mod Laws
 pub mod Macros
 pub mod Sessions

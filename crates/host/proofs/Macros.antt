@@ -1,18 +1,18 @@
 -- What the macros read, from bit 32 and back.
 use Prim.Native.Nat.{ℕ}
 use mathlib.Core.Path.{_≡_, refl, sym, _∙_, ap}
-use mathlib.Core.Bool.{Bool, true, false, _&&_, cond}
-use lib.Dec.{eqb, leb}
+use mathlib.Core.Bool.{Bool, true, false, cond}
+use lib.Dec.{eqb}
 use Rattle.model.specs.Numbers as No
 use Rattle.model.specs.Answers.{Refusal, Answer, numberOf, outcome}
 use Rattle.model.proofs.Facts.{eqb-true, refused-given, given-injective}
 use Rattle.host.specs.Macros.{isGiven, value, number, place, block, function}
-use Rattle.host.specs.Laws.{refusalIn, answerIn}
+use Rattle.host.specs.Laws.{placed, refusalIn, answerIn}
 
 -- a refusal's number is the one that the macro reads
 pub refusal-number : (r : ℕ) → numberOf (refusalIn r) ≡ number r
 unfolding refusalIn numberOf
-refusal-number r = go (eqb (number r) No.form) (leb No.main (number r) && leb (number r) No.nesting) refl
+refusal-number r = go (eqb (number r) No.form) (placed (number r)) refl
   where
     go : (b c : Bool) → eqb (number r) No.form ≡ b →
         numberOf

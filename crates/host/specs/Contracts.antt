@@ -9,8 +9,9 @@ use Rattle.model.specs.Calls as Calls
 use Rattle.model.specs.Calls.{Choice}
 use Rattle.chains.specs.Depth.{depth}
 use Rattle.numbering.specs.Tidy.{tidy}
+use Rattle.inference.specs.Complete.{complete}
 use Rattle.host.specs.Exports as Exports
-use Rattle.host.specs.Exports.{done, asNumber, Gives, Writes, Finds, Tells}
+use Rattle.host.specs.Exports.{done, asNumber, Gives, Writes, Completes, Finds, Tells}
 
 abbrev pub Read : List ℕ → ℕ → Type 0
 Read s r = r ≡ done (outcome (Calls.read s))
@@ -24,6 +25,10 @@ Depth s r = r ≡ asNumber (depth s)
 -- the output before and afterwards
 abbrev pub Tidy : List ℕ → List ℕ → ℕ → List ℕ → Type 0
 Tidy s out r out′ = Writes (tidy s out) r out′
+
+-- the output and the scratch before and afterwards
+abbrev pub Complete : List ℕ → List ℕ → List ℕ → ℕ → List ℕ → List ℕ → Type 0
+Complete s out words r out′ words′ = Completes (complete s out words) r out′ words′
 
 -- the pool's words before and afterwards
 abbrev pub Start : List ℕ → List ℤ → ℕ → List ℤ → Type 0

@@ -9,6 +9,7 @@ use Rattle.model.specs.Answers.{Answer}
 use Rattle.model.specs.Calls as Calls
 use Rattle.model.specs.Calls.{Called, Which}
 use Rattle.numbering.specs.Tidy.{Wrote}
+use Rattle.inference.specs.Complete.{Completed}
 use Rattle.answers.specs.Coded.{given, codeOf}
 use Rattle.host.specs.Macros.{noThread, stillOpen}
 
@@ -17,7 +18,7 @@ unfoldable pub done : Answer (Unit {0}) → ℕ
 done (Answer.given u) = given 0
 done (Answer.refused r) = codeOf r
 
--- an answer that gives a number: a choice's rule, the depth of a table, the length of the tidy table
+-- an answer that gives a number: a choice's rule, the depth of a table, the length of the tidy or the completed table
 unfoldable pub asNumber : Answer ℕ → ℕ
 asNumber (Answer.given n) = given n
 asNumber (Answer.refused r) = codeOf r
@@ -55,6 +56,12 @@ pub record Gives {A : Type 0} (code : Answer A → ℕ) (c : Called A) (r : ℕ)
 pub record Writes (w : Wrote) (r : ℕ) (out : List ℕ) : Type 0 where
   pub number : r ≡ asNumber (w .answer)
   pub bytes : out ≡ w .after
+
+-- a completion's answer as a number, and the output and the scratch afterwards
+pub record Completes (c : Completed) (r : ℕ) (out words : List ℕ) : Type 0 where
+  pub number : r ≡ asNumber (c .answer)
+  pub bytes : out ≡ c .out
+  pub scratch : words ≡ c .words
 
 -- the number of some right answer to which thread can step
 pub record Finds (s : List ℕ) (ws : List ℤ) (r : ℕ) : Type 0 where

@@ -1,9 +1,9 @@
 -- What a host may conclude from the number that a call answered and from the memory that it lent, for all bytes and words: the
 -- number tells the definition's answer, which numbers there are, and what is written.
-use Prim.Native.Nat.{ℕ, _+_, _≤_, _<_}
+use Prim.Native.Nat.{ℕ, _+_, _-_, _≤_, _<_}
 use mathlib.Core.Path.{_≡_}
-use mathlib.Core.Logic.{_⊎_}
-use mathlib.Core.Bool.{true, false, _&&_, cond}
+use mathlib.Core.Logic.{_⊎_, _≢_}
+use mathlib.Core.Bool.{Bool, true, false, _&&_, _||_, cond}
 use mathlib.Core.Option.{Option, none, some}
 use mathlib.Core.List.{List}
 use lib.Dec.{eqb, leb}
@@ -17,15 +17,19 @@ use Rattle.model.specs.Calls as Calls
 use Rattle.model.specs.Calls.{Choice}
 use Rattle.chains.specs.Depth.{depth}
 use Rattle.numbering.specs.Tidy.{tidy}
+use Rattle.inference.specs.Complete.{scratchWords, outputBytes, cleared, complete}
 use Rattle.host.specs.Macros.{isGiven, value, number, place, block, function, poolWords, noThread, stillOpen}
-use Rattle.host.specs.Contracts.{Read, Check, Depth, Tidy, Start, Choose, Schedule, Which, Values}
+use Rattle.host.specs.Contracts.{Read, Check, Depth, Tidy, Complete, Start, Choose, Schedule, Which, Values}
 
--- what the macros read in a refused number: for 3 a place, for 4 to 11 a function and a block
+-- has a refusal of this number a function and a block: 4 to 11, 25 and 26
+unfoldable pub placed : ℕ → Bool
+placed n = (leb No.main n && leb n No.nesting) || (leb No.unreached n && leb n No.impossible)
+
+-- what the macros read in a refused number: for 3 a place, for those a function and a block
 unfoldable pub refusalIn : ℕ → Refusal
 refusalIn r =
     cond (eqb (number r) No.form) (Refusal.byte (place r))
-    (cond (leb No.main (number r) && leb (number r) No.nesting) (Refusal.fault (number r) (function r) (block r))
-    (Refusal.plain (number r)))
+    (cond (placed (number r)) (Refusal.fault (number r) (function r) (block r)) (Refusal.plain (number r)))
 
 -- what they read in a number: given exactly where bit 32 is set, with its value
 unfoldable pub answerIn : ℕ → Answer ℕ
@@ -101,6 +105,29 @@ pub record TidyTells (s out : List ℕ) (r : ℕ) (out′ : List ℕ) : Type 0 w
   pub enough : (c : ℕ) → Check s c → isGiven c ≡ true → length s ≤ length out → isGiven r ≡ true
   pub unwritten : isGiven r ≡ false → out′ ≡ out
 
+-- a completion's refusals: 1 to 3; 24, which is given exactly where too few words or an output of another length are lent; 25 and 26,
+-- which are given only where enough is lent, at a function of the table, 25 at a block and 26 at none
+pub data OfCompletion (s out words : List ℕ) (r : ℕ) : Type 0 where
+  ofTable : OfTable s r → OfCompletion s out words r
+  ofLent : number r ≡ No.lent → (length words < scratchWords) ⊎ (length out ≢ outputBytes) → OfCompletion s out words r
+  atBlock : number r ≡ No.unreached → function r < getD s 5 0 → block r < 32 → OfCompletion s out words r
+  atFunction : number r ≡ No.impossible → function r < getD s 5 0 → block r ≡ 255 → OfCompletion s out words r
+
+-- mezdaulk_complete: the value is the length of the completed table, which stands at the start of the output with 0 behind it, up to
+-- 16,384 bytes; mezdaulk_check accepts it. Refused, nothing is written into the output. The scratch is as it was at 1 to 3 and at 24;
+-- else its first 1,024 words are 0, and those behind them as they were. A table that gets here is none to mezdaulk_read: it gets 2
+pub record CompleteTells (s out words : List ℕ) (r : ℕ) (out′ words′ : List ℕ) : Type 0 where
+  pub answers : answerIn r ≡ complete s out words .answer
+  pub given : isGiven r ≡ true → value r ≤ outputBytes
+  pub accepted : isGiven r ≡ true → (c : ℕ) → Check (take (value r) out′) c → isGiven c ≡ true
+  pub behind : isGiven r ≡ true → drop (value r) out′ ≡ replicate (outputBytes - value r) 0
+  pub lent : (isGiven r ≡ true) ⊎ (No.unreached ≤ number r) → (scratchWords ≤ length words) × (length out ≡ outputBytes)
+  pub refused : isGiven r ≡ false → OfCompletion s out words r
+  pub unwritten : isGiven r ≡ false → out′ ≡ out
+  pub cleared : (isGiven r ≡ true) ⊎ (No.unreached ≤ number r) → words′ ≡ cleared words
+  pub kept : isGiven r ≡ false → number r ≤ No.lent → words′ ≡ words
+  pub other : (isGiven r ≡ true) ⊎ (No.lent ≤ number r) → (c : ℕ) → Read s c → (isGiven c ≡ false) × (number c ≡ No.version)
+
 -- a fresh pool: one thread, with one frame at main's entry. Every other word is 0
 unfoldable pub fresh : List ℤ
 fresh = set (set (replicate poolWords (pos 0)) threadCountAt (pos 1)) (threadStart 0 + frameCountAt) (pos 1)
@@ -153,6 +180,8 @@ pub record Laws : Type 0 where
   pub check : (s : List ℕ) (r : ℕ) → Check s r → CheckTells s r
   pub depth : (s : List ℕ) (r : ℕ) → Depth s r → DepthTells s r
   pub tidy : (s out : List ℕ) (r : ℕ) (out′ : List ℕ) → Tidy s out r out′ → TidyTells s out r out′
+  pub complete : (s out words : List ℕ) (r : ℕ) (out′ words′ : List ℕ) → Complete s out words r out′ words′ →
+      CompleteTells s out words r out′ words′
   pub start : (s : List ℕ) (ws : List ℤ) (r : ℕ) (ws′ : List ℤ) → Start s ws r ws′ → StartTells s ws r ws′
   pub choose : (s : List ℕ) (ws : List ℤ) (kind thread r : ℕ) (ws′ : List ℤ) → Choose s ws kind thread r ws′ →
       ChooseTells s ws kind thread r ws′

@@ -11,7 +11,7 @@ isGiven r = eqb (r / 2 ^ 32 % 2) 1
 abbrev pub value : ℕ → ℕ
 value r = r % 2 ^ 32
 
--- a refusal: its number; the place of a 3; the block and the function of 4 to 11
+-- a refusal: its number; the place of a 3; the block and the function of 4 to 11, 25 and 26
 abbrev pub number : ℕ → ℕ
 number r = r % 256
 

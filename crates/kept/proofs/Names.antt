@@ -1,9 +1,8 @@
 -- What the code at an offset names: of a transfer, kind by kind, and of a block.
-use Prim.Native.Nat.{ℕ, zero, suc, _^_, _<_}
+use Prim.Native.Nat.{ℕ, _^_, _<_}
 use mathlib.Core.Path.{_≡_, refl, sym, _∙_, ap, subst}
 use mathlib.Core.Option.{none, some}
 use mathlib.Core.List.{List, [], _∷_, _++_, map, append-assoc, append-nil}
-use native.Mathlib.Omega.{arith}
 use lib.ListN.{length, getElem?}
 use Rattle.model.specs.Lists.{concat}
 use Rattle.model.specs.Syntax.{Transfer, Function, Program, targets, sporkedBy, calledBy}
@@ -12,6 +11,7 @@ use Rattle.code.specs.declared.Opening.{Opening}
 use Rattle.code.specs.Bytes.{byteAt, past}
 use Rattle.code.specs.Code.{run, argumentsAt, headAt, openingAt, spawnAt, spawnEnd, expressionEnd, transferOf, transferAt, blockAt}
 use Rattle.code.proofs.Decoding.{block-is, spawn-is, no-spork, no-call}
+use Rattle.code.proofs.Targets.{past-past, is-of, names-goto, names-if, names-call, names-return, names-spork, names-spoin}
 use Rattle.places.specs.declared.Place.{Place}
 use Rattle.places.specs.declared.Place.the-variants.{At, Nowhere}
 use Rattle.places.specs.Places.{Places, spawnIn, FindsBlock, FindsSpawn}
@@ -28,53 +28,29 @@ pub two-names : (s : List ℕ) (at : ℕ) {l a b : List ℕ} {n m r x k y : ℕ}
 unfolding run
 two-names s at e p f g q = same (then p q) (rw (e, g, f))
 
--- a transfer, by its kind
-is-of : (s : List ℕ) (at : ℕ) {first kind : ℕ} → first ≡ past at 1 → kind ≡ byteAt s at → transferAt s at ≡ transferOf kind s first
-unfolding transferAt
-is-of s at f k = rw (f, k)
-
--- a kind above 4 is a spoin's
-others : (kind : ℕ) (s : List ℕ) (at : ℕ) → 4 < kind → targets (transferOf kind s at) ≡ run s at 2
-unfolding transferOf targets run
-others zero s at h = absurd (omega arith)
-others (suc zero) s at h = absurd (omega arith)
-others (suc (suc zero)) s at h = absurd (omega arith)
-others (suc (suc (suc zero))) s at h = absurd (omega arith)
-others (suc (suc (suc (suc zero)))) s at h = absurd (omega arith)
-others (suc (suc (suc (suc (suc kind))))) s at h = refl
-
 -- the blocks that a transfer names
 module _ (s : List ℕ) (at : ℕ) {first kind : ℕ} (f : first ≡ past at 1) (k : kind ≡ byteAt s at) {l : List ℕ} {n : ℕ} where
   pub targets-return : kind ≡ 3 → Adds l n (targets (transferAt s at)) n l
-  unfolding transferOf targets
-  targets-return z = same no-names (rw (is-of s at f k, z))
+  targets-return z = same no-names (sym (names-return s at f k z))
 
   module _ {a : List ℕ} {r : ℕ} where
     pub targets-goto : {x : ℕ} → kind ≡ 0 → x ≡ byteAt s first → Adds l n (x ∷ []) r a → Adds l n (targets (transferAt s at)) r a
-    unfolding transferOf targets
-    targets-goto z e p = same p (rw (is-of s at f k, z, e))
+    targets-goto z e p = same p (rw (names-goto s at f k z, e))
 
     pub targets-if : {x : ℕ} → kind ≡ 1 → x ≡ expressionEnd s first → Adds l n (run s x 2) r a → Adds l n (targets (transferAt s at)) r a
-    unfolding transferOf targets run
-    targets-if z e p = same p (rw (is-of s at f k, z, e))
+    targets-if z e p = same p (sym (names-if s at f k z e))
 
     pub targets-call : {e x : ℕ} → kind ≡ 2 → e ≡ spawnEnd s first → x ≡ byteAt s e → Adds l n (x ∷ []) r a
         → Adds l n (targets (transferAt s at)) r a
-    unfolding transferOf targets spawnEnd
-    targets-call z e d p = same p (rw (is-of s at f k, z, d, e))
+    targets-call z e d p = same p (rw (names-call s at f k z e, d))
 
     pub targets-spork : {x : ℕ} → kind ≡ 4 → x ≡ byteAt s first → Adds l n (x ∷ []) r a → Adds l n (targets (transferAt s at)) r a
-    unfolding transferOf targets
-    targets-spork z e p = same p (rw (is-of s at f k, z, e))
+    targets-spork z e p = same p (rw (names-spork s at f k z, e))
 
     pub targets-spoin : 4 < kind → Adds l n (run s first 2) r a → Adds l n (targets (transferAt s at)) r a
-    targets-spoin z p = same p (sym (ap targets (is-of s at f k) ∙ others kind s first z))
+    targets-spoin z p = same p (sym (names-spoin s at f k z))
 
 -- the spawn call that a transfer names, if it is a spork
-past-past : (at : ℕ) → past at 2 ≡ past (past at 1) 1
-unfolding past
-past-past at = omega arith
-
 module _ (s : List ℕ) (at : ℕ) {kind : ℕ} (k : kind ≡ byteAt s at) {l : List ℕ} {n : ℕ} where
   pub sporked-none : (kind ≡ 4 → ⊥) → Adds l n (sporkedBy (transferAt s at)) n l
   sporked-none h = same no-names (sym (ap sporkedBy (is-of s at refl k) ∙ no-spork kind s (past at 1) h))
@@ -149,7 +125,7 @@ module _ (s places : List ℕ) (f π : ℕ) {r : Place} (find : FindsSpawn place
   spawned-nowhere e =
       record {
         is = λ P F p h c.
-            let q : getElem? (F .spawns) π ≡ none = rw h at (subst (FindsSpawn places f π) e find s P p) in
+            let q : getElem? (F .spawns) π ≡ none = rw h at (subst (FindsSpawn places f π) e find s P _ p) in
             same no-names (rw q);
       }
 
@@ -159,7 +135,7 @@ module _ (s places : List ℕ) (f π : ℕ) {r : Place} (find : FindsSpawn place
   spawned-at e d q =
       record {
         is = λ P F p h c.
-            let (S, g, t) = subst (FindsSpawn places f π) e find s P p in
+            let (S, g, t) = subst (FindsSpawn places f π) e find s P _ p in
             let g′ : getElem? (F .spawns) π ≡ some S = rw h at g in
             same q (rw (g′, spawn-is s _ S (t .behind) (p .short) (t .is), d));
       }
@@ -174,13 +150,13 @@ concat-append g (x ∷ xs) ys = rw (concat-append g xs ys) (sym (append-assoc (g
 module _ (s places : List ℕ) (f b : ℕ) {r : Place} (find : FindsBlock places f b r) where
   no-block : r ≡ Nowhere → (P : Program) (F : Function) → Places s P places → getElem? P f ≡ some F → getElem? (F .blocks) b ≡ none
   unfolding blockIn
-  no-block e P F p h = rw h at (subst (FindsBlock places f b) e find s P p)
+  no-block e P F p h = rw h at (subst (FindsBlock places f b) e find s P _ p)
 
   the-block : {at : ℕ} → r ≡ At at → (P : Program) (F : Function) → Places s P places → getElem? P f ≡ some F
       → getElem? (F .blocks) b ≡ some (blockAt s at)
   unfolding blockIn
   the-block e P F p h =
-      let (B, g, t) = subst (FindsBlock places f b) e find s P p in
+      let (B, g, t) = subst (FindsBlock places f b) e find s P _ p in
       let g′ : getElem? (F .blocks) b ≡ some B = rw h at g in
       g′ ∙ ap some (block-is s _ B (t .behind) (p .short) (t .is))
 

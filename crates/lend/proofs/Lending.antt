@@ -11,7 +11,7 @@ use Rattle.model.specs.Answers.{Refusal, Answer, with, outcome}
 use Rattle.model.specs.Syntax.{Program}
 use Rattle.model.specs.Pool.{poolWords, wordsOf, isPool, arePool}
 use Rattle.model.specs.Calls.{Lent, read, measured, valid, lentWords, lent}
-use Rattle.model.proofs.Facts.{refused-given, eq-eqb, ne-eqb, eqb-true}
+use Rattle.model.proofs.Facts.{refused-given, outcome-given, outcome-refused, eq-eqb, ne-eqb, eqb-true}
 use Rattle.model.proofs.Words.{with-given, test-given, lent-given}
 use Rattle.answers.specs.declared.Answer as Code
 use Rattle.answers.specs.declared.Answer.the-variants.{Given, Refused}
@@ -25,27 +25,15 @@ use Rattle.table.proofs.Answered.{left-places}
 use Rattle.valid.specs.Judged.{JudgesPool}
 use Rattle.lend.specs.Lent.{LendsWords, LendsPool}
 
--- whether something is given, and what it is then
-module _ {A : Type 0} where
-  outcome-refused : (a : Answer A) {x : Refusal} → Answer.refused x ≡ outcome a → a ≡ Answer.refused x
-  unfolding outcome
-  outcome-refused (Answer.given b) e = refused-given e
-  outcome-refused (Answer.refused y) {x} e = let h : y ≡ x = cc in ap (λ (z : Refusal). Answer.refused z) h
-
-  outcome-given : (a : Answer A) → Answer.given tt ≡ outcome a → (b : A) × (a ≡ Answer.given b)
-  unfolding outcome
-  outcome-given (Answer.given b) e = (b, refl)
-  outcome-given (Answer.refused r) e = refused-given (sym e)
-
 -- the first door: reading, and the words' number
 module _ (s before places : List ℕ) (ws : List ℤ) (r : Code.Answer) (h : ReadAs s before places r) where
   pub words-unread : (x : Why.Refusal) → r ≡ Refused x → LendsWords s ws before places (Refused x)
   unfolding lentWords with
-  words-unread x z = record { answer = rw (outcome-refused (read s) (ap answerOf (sym z) ∙ h .answer)) refl; placed = h .placed }
+  words-unread x z = record { answer = rw (outcome-refused (read s) (sym (h .answer) ∙ ap answerOf z)) refl; placed = h .placed }
 
   module _ (z : r ≡ Given) where
     was-read : (P : Program) × (read s ≡ Answer.given P)
-    was-read = outcome-given (read s) (ap answerOf (sym z) ∙ h .answer)
+    was-read = outcome-given (read s) (sym (h .answer) ∙ ap answerOf z)
 
     pub words-given : length ws ≡ poolWords → LendsWords s ws before places Given
     unfolding lentWords with measured
@@ -110,11 +98,11 @@ pub record Lending (s places : List ℕ) (ws : List ℤ) : Type 0 where
 
 module _ (s before places : List ℕ) (ws : List ℤ) (r : Code.Answer) (h : LendsPool s ws before places r) (o : before ≡ nowhere) where
   pub refused-pool : (x : Why.Refusal) → r ≡ Refused x → lent s ws ≡ Answer.refused (refusalOf x)
-  refused-pool x z = outcome-refused (lent s ws) (ap answerOf (sym z) ∙ h .answer o)
+  refused-pool x z = outcome-refused (lent s ws) (sym (h .answer o) ∙ ap answerOf z)
 
   pub given-pool : r ≡ Given → Lending s places ws
   given-pool z =
-      let (l, e) = outcome-given (lent s ws) (ap answerOf (sym z) ∙ h .answer o) in
+      let (l, e) = outcome-given (lent s ws) (sym (h .answer o) ∙ ap answerOf z) in
       let i = lent-given s ws l e in
       record {
         what = l;

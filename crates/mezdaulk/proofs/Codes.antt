@@ -8,10 +8,12 @@ use Rattle.model.specs.Calls.{Called, Which}
 use Rattle.calls.specs.declared.Stepping.{Stepping}
 use Rattle.calls.specs.Calls.{called, steppingOf}
 use Rattle.numbering.specs.Tidy.{Wrote}
-use Rattle.tidy.specs.declared.Written.{Written}
+use Rattle.inference.specs.Complete.{Completed}
+use Rattle.answers.specs.declared.Written.{Written}
+use Rattle.answers.specs.Answers.{writtenOf}
 use Rattle.tidy.specs.Writes as Tidy
-use Rattle.tidy.specs.Writes.{writtenOf}
-use Rattle.host.specs.Exports.{asNumber, stepperOf, Gives, Writes, Finds}
+use Rattle.complete.specs.Writes as Complete
+use Rattle.host.specs.Exports.{asNumber, stepperOf, Gives, Writes, Completes, Finds}
 
 -- the number of the case that was found is that of the answer
 pub told : {A B : Type 0} (code : A → ℕ) (of : B → A) {r q : B} {n : ℕ} → r ≡ q → n ≡ code (of q) → n ≡ code (of r)
@@ -33,3 +35,8 @@ finds r h d = record { answer = steppingOf r; right = h; number = d }
 -- a call that leaves bytes
 pub wrote : {w : Wrote} {n : ℕ} (r : Written) {out : List ℕ} → Tidy.Writes w r out → n ≡ asNumber (writtenOf r) → Writes w n out
 wrote r h d = record { number = d ∙ ap asNumber (h .answer); bytes = h .after }
+
+-- and words
+pub completes : {c : Completed} {n : ℕ} (r : Written) {out words : List ℕ} → Complete.Writes c r out words → n ≡ asNumber (writtenOf r)
+    → Completes c n out words
+completes r h d = record { number = d ∙ ap asNumber (h .answer); bytes = h .out; scratch = h .words }

@@ -1,12 +1,12 @@
 // The library for hosts: thin exports. include/mezdaulk.h says what each answer is.
 use answers::Answer;
+use answers::Written;
 use calls::Chosen;
 use calls::State;
 use calls::Stepping;
 use depth::Needed;
 use schedule::Choice;
 use schedule::Scheduled;
-use tidy::Written;
 ghost use mathlib.Core.Path.{_≡_};
 ghost use Prim.Native.Nat.{min};
 ghost use mathlib.Core.Bool.{cond};
@@ -14,7 +14,7 @@ ghost use mathlib.Core.Option.{some};
 ghost use lib.Dec.{ltb};
 ghost use lib.ListN.{take};
 ghost use Rattle.model.specs.Answers as Model;
-ghost use Rattle.answers.specs.Answers.{answerOf};
+ghost use Rattle.answers.specs.Answers.{answerOf, writtenOf};
 ghost use Rattle.schedule.specs.Choices.{choicesOf};
 ghost use Rattle.host.specs.Exports as Exports;
 ghost use Rattle.host.specs.Exports.{Values};
@@ -33,6 +33,16 @@ fn done(a: Answer) -> u64
     match a {
         Answer::Given => answers::value(0),
         Answer::Refused(why) => answers::code(why),
+    }
+}
+
+// How many bytes were written, as one number.
+fn wrote(a: Written) -> u64
+    ensures { λ r. ⌜ r ≡ Exports.asNumber (writtenOf a) ⌝ }
+{
+    match a {
+        Written::Bytes(n) => answers::value(n),
+        Written::Refused(why) => answers::code(why),
     }
 }
 
@@ -65,10 +75,15 @@ pub extern "C" fn mezdaulk_depth(table: &[u8]) -> u64
 pub extern "C" fn mezdaulk_tidy(table: &[u8], out: &mut [u8]) -> u64
     ensures { λ r. ⌜ Contracts.Tidy (now (table .entry)) (now (out .entry)) r (now (out .exit)) ⌝ }
 {
-    match tidy::tidy(table, out) {
-        Written::Bytes(n) => answers::value(n),
-        Written::Refused(why) => answers::code(why),
-    }
+    wrote(tidy::tidy(table, out))
+}
+
+#[no_mangle]
+pub extern "C" fn mezdaulk_complete(table: &[u8], out: &mut [u8], scratch: &mut [u32]) -> u64
+    ensures { λ r. ⌜ Contracts.Complete (now (table .entry)) (now (out .entry)) (now (scratch .entry)) r (now (out .exit))
+        (now (scratch .exit)) ⌝ }
+{
+    wrote(complete::complete(table, out, scratch))
 }
 
 #[no_mangle]

@@ -13,7 +13,7 @@ use Rattle.model.specs.Answers.{Refusal, Answer}
 use Rattle.model.specs.Lists.{Each, equal, unsnoc}
 use Rattle.model.specs.Sets.{has, with, below, _∈_}
 use Rattle.model.specs.Syntax.{Statement, Transfer, Head, Block, SpawnCall, Function, Program}
-use Rattle.model.specs.Tests.{fault}
+use Rattle.model.specs.Tests.{Tests, fault}
 use Rattle.model.specs.WellFormed.{Env, env, WF-cont, WF-transfer, WF-code, Fresh, Nested, WF-block, WF-spawn, WF-entry, WF-fun}
 use Rattle.model.specs.WellFormed.{WF-prog}
 use Rattle.model.specs.Check as Check
@@ -239,31 +239,50 @@ blocks-back E f (C ∷ B̄) B e n (h, hs) =
     let i : Check.isEntry (E .own .parameters) (C .head) ≡ true = rw (some-injective e) (entry-back _ _ n) in
     (block-back E 0 C (right-or (not (eqb 0 0)) _ i) h, later E f 0 B̄ hs)
 
+-- the tests of function f: none fails exactly where it is well formed
+abbrev pub ofFunction : Program → ℕ → Function → List Placed
+ofFunction P f F =
+    record { function = f; block = Check.nowhere; tests = Tests.each (Check.spawn (env P F)) (F .spawns) } ∷
+    Check.ofBlocks (env P F) f 0 (F .blocks)
+
+function-wf : (P : Program) (f : ℕ) (F : Function) → InFunction F → AllHold (ofFunction P f F) → WF-fun P F
+unfolding env
+function-wf P f F l (s, bs) =
+    let (B, first) = below-at (F .blocks) 0 (l .someBlock) in
+    record {
+      spawns = each-map (spawn (env P F)) (F .spawns) s;
+      entry = B;
+      first = first;
+      enters = first-entry (env P F) f (F .blocks) B first bs;
+      blocks = blocks (env P F) f 0 (F .blocks) bs;
+    }
+
+wf-function : (P : Program) (f : ℕ) (F : Function) → WF-fun P F → AllHold (ofFunction P f F)
+unfolding env
+wf-function P f F w = (
+  each-map (spawn-back (env P F)) (F .spawns) (w .spawns),
+  blocks-back (env P F) f (F .blocks) (w .entry) (w .first) (w .enters) (w .blocks),
+)
+
+pub function-accepted : (P : Program) (f : ℕ) (F : Function) → InFunction F → firstFault (ofFunction P f F) ≡ Answer.given tt → WF-fun P F
+function-accepted P f F l e = function-wf P f F l (first-sound (ofFunction P f F) e)
+
+pub accepted-function : (P : Program) (f : ℕ) (F : Function) → WF-fun P F → firstFault (ofFunction P f F) ≡ Answer.given tt
+accepted-function P f F w = first-complete (ofFunction P f F) (wf-function P f F w)
+
 functions : (P : Program) (f : ℕ) (F̄ : List Function) → Each InFunction F̄ → AllHold (Check.ofFunctions P f F̄) → Each (WF-fun P) F̄
-unfolding Check.ofFunctions env
+unfolding Check.ofFunctions
 functions P f [] l h = tt
-functions P f (F ∷ F̄) (l, ls) (s, h) =
-    let bs = hold-left (Check.ofBlocks (env P F) f 0 (F .blocks)) (Check.ofFunctions P (f + 1) F̄) h in
-    let (B, first) = below-at (F .blocks) 0 (l .someBlock) in (
-      record {
-        spawns = each-map (spawn (env P F)) (F .spawns) s;
-        entry = B;
-        first = first;
-        enters = first-entry (env P F) f (F .blocks) B first bs;
-        blocks = blocks (env P F) f 0 (F .blocks) bs;
-      },
-      functions P (f + 1) F̄ ls (hold-right (Check.ofBlocks (env P F) f 0 (F .blocks)) (Check.ofFunctions P (f + 1) F̄) h),
-    )
+functions P f (F ∷ F̄) (l, ls) h = (
+  function-wf P f F l (hold-left (ofFunction P f F) (Check.ofFunctions P (f + 1) F̄) h),
+  functions P (f + 1) F̄ ls (hold-right (ofFunction P f F) (Check.ofFunctions P (f + 1) F̄) h),
+)
 
 functions-back : (P : Program) (f : ℕ) (F̄ : List Function) → Each (WF-fun P) F̄ → AllHold (Check.ofFunctions P f F̄)
-unfolding Check.ofFunctions env
+unfolding Check.ofFunctions
 functions-back P f [] h = tt
-functions-back P f (F ∷ F̄) (w, ws) = (
-  each-map (spawn-back (env P F)) (F .spawns) (w .spawns),
-  hold-append (Check.ofBlocks (env P F) f 0 (F .blocks)) (Check.ofFunctions P (f + 1) F̄)
-      (blocks-back (env P F) f (F .blocks) (w .entry) (w .first) (w .enters) (w .blocks))
-      (functions-back P (f + 1) F̄ ws),
-)
+functions-back P f (F ∷ F̄) (w, ws) =
+    hold-append (ofFunction P f F) (Check.ofFunctions P (f + 1) F̄) (wf-function P f F w) (functions-back P (f + 1) F̄ ws)
 
 -- a program, and a table
 pub accepted-wf : (P : Program) → Limits P → judge P ≡ Answer.given tt → WF-prog P

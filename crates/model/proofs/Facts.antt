@@ -1,6 +1,6 @@
 -- General laws of tests, options and lists. `ltb-true`, `lt-ltb` and their kin (a test's value against the fact) come from
 -- borrow.Author.Tests and are passed on; the others are over Bool's connectives, and the tests and `Each` of Lists.
-use Prim.Native.Nat.{ℕ, zero, suc, _+_, _≤_, _<_, zero-le, suc-le-suc}
+use Prim.Native.Nat.{ℕ, zero, suc, _+_, _-_, _≤_, _<_, zero-le, suc-le-suc}
 use mathlib.Core.Path.{_≡_, refl, sym, _∙_, ap, subst}
 use mathlib.Core.Bool.{Bool, true, false, not, _&&_, _||_, true≢false, false≢true}
 use mathlib.Core.Option.{Option, none, some, Option·map}
@@ -10,7 +10,8 @@ use native.Mathlib.Numerals.{add-one}
 use native.Mathlib.Omega.{arith}
 use lib.Dec.{eqb}
 use lib.ListN.{length, getD, getElem?, drop, replicate}
-use Rattle.model.specs.Answers.{Refusal, Answer}
+use lib.Seq.{drop-nil}
+use Rattle.model.specs.Answers.{Refusal, Answer, outcome}
 use Rattle.model.specs.Lists.{all, Each, equal, Snoc, snoc, unsnoc}
 pub use borrow.Author.Tests.{ltb-true, ltb-false, leb-true, leb-false, eqb-true, eqb-false, not-true, not-false, lt-ltb, le-ltb, le-leb}
 pub use borrow.Author.Tests.{lt-leb, eq-eqb, ne-eqb}
@@ -30,6 +31,18 @@ refused-given e = let z : _≡_ {A = ℕ} 0 1 = cc in absurd (omega arith)
 
 pub given-injective : {A : Type 0} {a b : A} → Answer.given a ≡ Answer.given b → a ≡ b
 given-injective e = cc
+
+-- what an outcome says of the answer
+module _ {A : Type 0} where
+  pub outcome-given : (a : Answer A) → outcome a ≡ Answer.given tt → (x : A) × (a ≡ Answer.given x)
+  unfolding outcome
+  outcome-given (Answer.given x) e = (x, refl)
+  outcome-given (Answer.refused r) e = refused-given e
+
+  pub outcome-refused : (a : Answer A) {r : Refusal} → outcome a ≡ Answer.refused r → a ≡ Answer.refused r
+  unfolding outcome
+  outcome-refused (Answer.given x) e = refused-given (sym e)
+  outcome-refused (Answer.refused r) e = cc
 
 -- connectives
 pub and-both : (a b : Bool) → (a && b) ≡ true → (a ≡ true) × (b ≡ true)
@@ -204,3 +217,9 @@ equal-refl (x ∷ xs) = both-and (eqb x x) _ (eq-eqb x x refl) (equal-refl xs)
 
 pub same-equal : (xs ys : List ℕ) → xs ≡ ys → equal xs ys ≡ true
 same-equal xs ys e = subst (λ (l : List ℕ). equal xs l ≡ true) e (equal-refl xs)
+
+-- a list of the same items, without its first
+pub drop-replicate : {A : Type 0} (n k : ℕ) (x : A) → drop k (replicate n x) ≡ replicate (n - k) x
+drop-replicate zero k x = let z : 0 - k ≡ 0 = omega arith in rw z (drop-nil k)
+drop-replicate (suc n) zero x = let z : suc n - 0 ≡ suc n = omega arith in rw z
+drop-replicate (suc n) (suc k) x = let z : suc n - suc k ≡ n - k = omega arith in rw z (drop-replicate n k x)

@@ -11,7 +11,7 @@ use Rattle.model.specs.Answers.{Refusal, Answer}
 use Rattle.model.specs.Lists.{Each}
 use Rattle.model.specs.Syntax.{Atom, Expression, Transfer, Head, Program, usesAtom, uses}
 use Rattle.model.specs.Read as Read
-use Rattle.model.specs.Read.{Parsed, Parser, byte, many, counted, pick, read}
+use Rattle.model.specs.Read.{Parsed, Parser, Version, byte, many, counted, pick, read}
 use Rattle.model.specs.Values.{signed}
 use Rattle.model.specs.Pool.{temporaries}
 use Rattle.model.specs.Limits.{Temporaries, Arguments, InStatement, InTransfer, InHead, InBlock, InSpawn, InFunction, Limits}
@@ -173,6 +173,12 @@ programBy i =
     gives-then (gives-byte 1 16) λ n b. gives-more (gives-many (functionBy i) n) λ P h.
     record { some = omega arith; few = omega arith; functions = h .0 }
 
+pub bare : Gives Read.bare InHead
+unfolding Read.bare
+bare =
+    gives-then arguments λ x̄ p.
+    gives-pure (record { parameters = x̄; scope = 0; nesting = [] }) (record { parameters = p; scope = omega arith; nesting = omega arith })
+
 pub block : Gives Read.block InBlock
 block = blockBy head
 
@@ -182,34 +188,38 @@ function = functionBy head
 pub program : Gives Read.program Limits
 program = programBy head
 
--- a table of the right size, as the test has it and as facts
-pub record Sized (s : List ℕ) (field : ℕ) : Type 0 where
+-- a table of the right size for a version, as the test has it and as facts
+pub record Sized (v : Version) (s : List ℕ) (field : ℕ) : Type 0 where
   pub least : 6 ≤ length s
-  pub most : length s ≤ 16384
+  pub most : length s ≤ v .most
   pub is : field ≡ length s
 
-pub sized-is : (s : List ℕ) (n : ℕ) → Read.sized s n ≡ true → Sized s n
-unfolding Read.sized
-sized-is s n e =
-    let a = leb 6 (length s) in let b = leb (length s) 16384 in let c = eqb n (length s) in
+pub sized-is : {v : Version} (s : List ℕ) (n : ℕ) → Read.sizedAs v s n ≡ true → Sized v s n
+unfolding Read.sizedAs
+sized-is {v} s n e =
+    let a = leb 6 (length s) in let b = leb (length s) (v .most) in let c = eqb n (length s) in
     let both = and-left (a && b) c e in
     record {
       least = leb-true 6 (length s) (and-left a b both);
-      most = leb-true (length s) 16384 (and-right a b both);
+      most = leb-true (length s) (v .most) (and-right a b both);
       is = eqb-true n (length s) (and-right (a && b) c e);
     }
 
-pub is-sized : (s : List ℕ) (n : ℕ) → Sized s n → Read.sized s n ≡ true
-unfolding Read.sized
-is-sized s n h =
-    both-and _ (eqb n (length s)) (both-and _ (leb (length s) 16384) (le-leb 6 (length s) (h .least)) (le-leb (length s) 16384 (h .most)))
+pub is-sized : {v : Version} (s : List ℕ) (n : ℕ) → Sized v s n → Read.sizedAs v s n ≡ true
+unfolding Read.sizedAs
+is-sized {v} s n h =
+    both-and _ (eqb n (length s))
+    (both-and _ (leb (length s) (v .most)) (le-leb 6 (length s) (h .least)) (le-leb (length s) (v .most) (h .most)))
     (eq-eqb n (length s) (h .is))
 
 -- what reads has its sizes and version, and is a program that ends where the table ends
-pub record Reads (s : List ℕ) (P : Program) : Type 0 where
-  pub sized : Read.sized s (Read.lengthField s) ≡ true
-  pub version : eqb (getD s 4 0) 1 ≡ true
-  pub program : Read.program s 5 ≡ Parsed.ok P (length s)
+pub record ReadsAs (v : Version) (s : List ℕ) (P : Program) : Type 0 where
+  pub sized : Read.sizedAs v s (Read.lengthField s) ≡ true
+  pub version : eqb (getD s 4 0) (v .number) ≡ true
+  pub program : Read.programBy (v .head) s 5 ≡ Parsed.ok P (length s)
+
+abbrev pub Reads : List ℕ → Program → Type 0
+Reads s P = ReadsAs Read.full s P
 
 cond-given : {A : Type 0} (b : Bool) (x : Answer A) (r : Refusal) {a : A} → cond b x (Answer.refused r) ≡ Answer.given a
     → (b ≡ true) × (x ≡ Answer.given a)
@@ -224,16 +234,27 @@ whole-given s (Parsed.ok Q at) P e =
     let n : at ≡ length s = eqb-true at (length s) ends in
     cc
 
+reads-as : (v : Version) (s : List ℕ) (P : Program) → Read.readAs v s 5 (Read.lengthField s) (getD s 4 0) ≡ Answer.given P → ReadsAs v s P
+unfolding Read.readAs
+reads-as v s P e =
+    let (sized, e₁) = cond-given (Read.sizedAs v s (Read.lengthField s)) _ _ e in
+    let (version, e₂) = cond-given (eqb (getD s 4 0) (v .number)) _ _ e₁ in
+    record { sized = sized; version = version; program = whole-given s (Read.programBy (v .head) s 5) P e₂ }
+
 pub reads : (s : List ℕ) (P : Program) → read s ≡ Answer.given P → Reads s P
-unfolding read Read.readFrom
-reads s P e =
-    let (sized, e₁) = cond-given (Read.sized s (Read.lengthField s)) _ _ e in
-    let (version, e₂) = cond-given (eqb (getD s 4 0) 1) _ _ e₁ in
-    record { sized = sized; version = version; program = whole-given s (Read.program s 5) P e₂ }
+unfolding Read.read
+reads s P e = reads-as Read.full s P e
+
+pub brief-reads : (s : List ℕ) (P : Program) → Read.readBrief s ≡ Answer.given P → ReadsAs Read.brief s P
+unfolding Read.readBrief
+brief-reads s P e = reads-as Read.brief s P e
 
 pub reads-back : (s : List ℕ) (P : Program) → Reads s P → read s ≡ Answer.given P
-unfolding read Read.readFrom Read.whole
+unfolding Read.read Read.readAs Read.whole
 reads-back s P r = rw (r .sized, r .version, r .program, eq-eqb (length s) (length s) refl)
 
 pub read-limits : (s : List ℕ) (P : Program) → read s ≡ Answer.given P → Limits P
 read-limits s P e = program .gives s 5 P (length s) (reads s P e .program)
+
+pub brief-limits : (s : List ℕ) (P : Program) → Read.readBrief s ≡ Answer.given P → Limits P
+brief-limits s P e = programBy bare .gives s 5 P (length s) (brief-reads s P e .program)

@@ -10,11 +10,11 @@ use lib.Pow.{pow-pos, pow-mono}
 use Rattle.model.specs.Sets.{has, with, below}
 use Rattle.model.proofs.Facts.{eqb-false, eq-eqb}
 
-has-zero : (Γ : ℕ) → has Γ zero ≡ eqb (Γ % 2) 1
+pub has-zero : (Γ : ℕ) → has Γ zero ≡ eqb (Γ % 2) 1
 unfolding has
 has-zero Γ = rw div-one
 
-has-suc : (Γ x : ℕ) → has Γ (suc x) ≡ has (Γ / 2) x
+pub has-suc : (Γ x : ℕ) → has Γ (suc x) ≡ has (Γ / 2) x
 unfolding has
 has-suc Γ x = rw (div-div-eq-div-mul, ← pow-succ')
 

@@ -16,9 +16,9 @@ use Rattle.model.specs.Numbers.{Within, RuleOf}
 use Rattle.model.specs.Answers.{Refusal, Answer, with}
 use Rattle.model.specs.Lists.{Each, equal, unsnoc}
 use Rattle.model.specs.Values.{same}
-use Rattle.model.specs.Syntax.{Statement, Transfer, Block, Function, Program}
+use Rattle.model.specs.Syntax.{Statement, Transfer, Head, Block, Function, Program}
 use Rattle.model.specs.Read as Read
-use Rattle.model.specs.Read.{Parsed, Parser, _>>=_, byte, many, counted, pick, read}
+use Rattle.model.specs.Read.{Parsed, Parser, Version, _>>=_, byte, many, counted, pick, read}
 use Rattle.model.specs.Tests.{Tests, _then_, or, ofGiven, ofEach, fault}
 use Rattle.model.specs.WellFormed.{Env, env}
 use Rattle.model.specs.Check as Check
@@ -35,7 +35,7 @@ use Rattle.model.specs.Calls.{Lent, lent, check, Choice, Steps, Which}
 use Rattle.model.proofs.Facts.{refused-given, none-some, and-left, and-right, leb-true, ltb-true, each-at, at-below}
 use Rattle.model.proofs.Reading.{next-ok, byte-ok, many-item, many-length, ok-offset}
 use Rattle.model.proofs.Guarantees
-use Rattle.model.proofs.Guarantees.{Gives, gives-pure, gives-then, gives-byte, gives-many, sized-is, reads, read-limits}
+use Rattle.model.proofs.Guarantees.{Gives, gives-pure, gives-then, gives-byte, gives-many, sized-is, reads, brief-reads, read-limits}
 use Rattle.model.proofs.Valid.{pool-facts}
 use Rattle.model.proofs.Words.{lent-given, lent-words}
 use Rattle.model.proofs.Kept.{OnSome, on-bind, on-is, on-when, choose-lent}
@@ -174,25 +174,31 @@ unfolding Read.head
 inside-head =
     inside-then inside-arguments λ x̄. inside-then inside-half λ Γ. inside-then (inside-counted inside-name 4) λ ρ. inside-pure _
 
-inside-block : Inside Read.block
-unfolding Read.blockBy
-inside-block =
-    inside-then inside-head λ h. inside-then (inside-counted inside-statement 32) λ c. inside-then inside-transfer λ t. inside-pure _
+inside-bare : Inside Read.bare
+unfolding Read.bare
+inside-bare = inside-then inside-arguments λ x̄. inside-pure _
 
 inside-spawn : Inside Read.spawnCall
 unfolding Read.spawnCall
 inside-spawn = inside-then inside-name λ g. inside-then inside-arguments λ x̄. inside-pure _
 
-inside-function : Inside Read.function
-unfolding Read.functionBy
-inside-function =
-    inside-then (inside-byte 0 8) λ n. inside-then (inside-byte 0 4) λ r. inside-then (inside-byte 1 32) λ b.
-    inside-then (inside-byte 0 8) λ c. inside-then (inside-many inside-spawn c) λ π̄. inside-then (inside-many inside-block b) λ B̄.
-    inside-pure _
+-- what stands above a head, whatever it is read by
+module _ {p : Parser Head} (h : Inside p) where
+  inside-block : Inside (Read.blockBy p)
+  unfolding Read.blockBy
+  inside-block =
+      inside-then h λ h. inside-then (inside-counted inside-statement 32) λ c. inside-then inside-transfer λ t. inside-pure _
 
-inside-program : Inside Read.program
-unfolding Read.programBy
-inside-program = inside-then (inside-byte 1 16) (inside-many inside-function)
+  inside-function : Inside (Read.functionBy p)
+  unfolding Read.functionBy
+  inside-function =
+      inside-then (inside-byte 0 8) λ n. inside-then (inside-byte 0 4) λ r. inside-then (inside-byte 1 32) λ b.
+      inside-then (inside-byte 0 8) λ c. inside-then (inside-many inside-spawn c) λ π̄. inside-then (inside-many inside-block b) λ B̄.
+      inside-pure _
+
+  inside-program : Inside (Read.programBy p)
+  unfolding Read.programBy
+  inside-program = inside-then (inside-byte 1 16) (inside-many inside-function)
 
 -- a table's refusals: 1, 2, or 3 with a place in a table of the right size, or at its end
 pub data OfTable (s : List ℕ) : Refusal → Type 0 where
@@ -200,9 +206,10 @@ pub data OfTable (s : List ℕ) : Refusal → Type 0 where
   version : OfTable s (Refusal.plain No.version)
   form : {place : ℕ} → place ≤ length s → Within 6 16384 (length s) → OfTable s (Refusal.byte place)
 
-pub read-can : (s : List ℕ) → Can Any (OfTable s) (read s)
-unfolding read Read.readFrom Read.whole
-read-can s = go (Read.sized s (Read.lengthField s)) (eqb (getD s 4 0) 1) refl
+as-can : (v : Version) → v .most ≤ 16384 → Inside (v .head) → (s : List ℕ) →
+    Can Any (OfTable s) (Read.readAs v s 5 (Read.lengthField s) (getD s 4 0))
+unfolding Read.readAs Read.whole
+as-can v most h s = go (Read.sizedAs v s (Read.lengthField s)) (eqb (getD s 4 0) (v .number)) refl
   where
     ends : (o : Parsed Program) → Stays s o → Within 6 16384 (length s) → Can Any (OfTable s) (Read.whole s o)
     ends (Parsed.bad place) l w = OfTable.form l w
@@ -212,15 +219,25 @@ read-can s = go (Read.sized s (Read.lengthField s)) (eqb (getD s 4 0) 1) refl
         left true = tt
         left false = OfTable.form l w
 
-    go : (b c : Bool) → Read.sized s (Read.lengthField s) ≡ b → Can Any (OfTable s)
+    go : (b c : Bool) → Read.sizedAs v s (Read.lengthField s) ≡ b → Can Any (OfTable s)
         (cond b
-        (cond c (Read.whole s (Read.program s 5)) (Answer.refused (Refusal.plain No.version)))
+        (cond c (Read.whole s (Read.programBy (v .head) s 5)) (Answer.refused (Refusal.plain No.version)))
         (Answer.refused (Refusal.plain No.size)))
     go true true p =
         let S = sized-is s _ p in
-        ends (Read.program s 5) (inside-program .stays s 5 (omega arith)) (S .least, S .most)
+        let l : 5 ≤ length s = omega (arith, S .least) in
+        ends (Read.programBy (v .head) s 5) (inside-program h .stays s 5 l) (S .least, omega (arith, S .most, most))
     go true false p = OfTable.version
     go false c p = OfTable.size
+
+pub read-can : (s : List ℕ) → Can Any (OfTable s) (read s)
+unfolding read
+read-can s = as-can Read.full (omega arith) inside-head s
+
+-- version 2
+pub brief-can : (s : List ℕ) → Can Any (OfTable s) (Read.readBrief s)
+unfolding Read.readBrief
+brief-can s = as-can Read.brief (omega arith) inside-bare s
 
 -- the header's bytes: byte 5 is the number of functions, byte 7 how many values main returns
 pub record Heading (s : List ℕ) (P : Program) : Type 0 where
@@ -251,6 +268,17 @@ function-returns s k {F} {j} e =
         gives-then (gives-byte 1 32) λ b _. gives-then (gives-byte 0 8) λ c _. gives-then (gives-many Guarantees.spawnCall c) λ π̄ _.
         gives-then (gives-many Guarantees.block b) λ B̄ _. gives-pure _ refl
 
+-- byte 5, whatever heads are read by
+counts : (p : Parser Head) (s : List ℕ) (P : Program) {e : ℕ} → Read.programBy p s 5 ≡ Parsed.ok P e → length P ≡ getD s 5 0
+unfolding Read.programBy
+counts p s P e =
+    let n = next-ok (byte 1 16 s 5) _ e in
+    let b = byte-ok 1 16 s 5 _ _ (n .first) in
+    many-length (Read.functionBy p) (n .value) s (n .between) (n .then) ∙ sym (b .is)
+
+pub brief-counts : (s : List ℕ) (P : Program) → Read.readBrief s ≡ Answer.given P → length P ≡ getD s 5 0
+brief-counts s P e = counts Read.bare s P (brief-reads s P e .program)
+
 pub read-heading : (s : List ℕ) (P : Program) → read s ≡ Answer.given P → Heading s P
 unfolding Read.programBy many
 read-heading s P e =
@@ -259,7 +287,7 @@ read-heading s P e =
     let i = many-item Read.function (n .value) 0 s (n .between) (n .then) (omega arith) in
     let z : i .from ≡ n .between = sym (ok-offset (i .before)) in
     record {
-      functions = many-length Read.function (n .value) s (n .between) (n .then) ∙ sym (b .is);
+      functions = counts Read.head s P (reads s P e .program);
       main = i .item;
       first = i .is;
       returns = function-returns s (i .from) (i .here) ∙ ap (λ (k : ℕ). getD s (k + 1) 0) (z ∙ b .behind);

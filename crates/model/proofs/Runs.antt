@@ -31,7 +31,7 @@ unfolding Answers.numberOf Answers.with Lists.all Lists.equal Lists.unsnoc Lists
     Values.minus Values.less Sets.has Sets.with Sets.withAll Sets.within Sets.below Syntax.usesAtom Syntax.uses Read.next Read.byte
     Read.many Read.counted Read.pick Read.name Read.half Read.word Read.temporary Read.arguments Read.value Read.variable Read.atom
     Read.unary Read.binary Read.expression Read.statement Read.goto Read.if Read.call Read.return Read.spork Read.spoin Read.transfer
-    Read.head Read.blockBy Read.spawnCall Read.functionBy Read.programBy Read.orZero Read.lengthField Read.sized Read.whole Read.readFrom
+    Read.head Read.blockBy Read.spawnCall Read.functionBy Read.programBy Read.orZero Read.lengthField Read.sizedAs Read.whole Read.readAs
     Read.read Tests.or Tests.ofGiven Tests.ofEach Tests.fault WellFormed.env Check.bound Check.takes Check.nests Check.scoped Check.transfer
     Check.code Check.fresh Check.nested Check.isEntry Check.block Check.spawn Check.ofBlocks Check.ofFunctions Check.ofMain Check.tests
     Check.at Check.firstFault Check.judge Pool.begin Pool.wordsOfFrame Pool.threadHead Pool.wordsOfThread Pool.wordsOf Pool.runs Pool.wordAt

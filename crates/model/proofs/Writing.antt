@@ -2,27 +2,34 @@
 use Prim.Native.Nat.{ℕ, zero, suc, _+_, _*_, _/_, _%_, _-_, _^_, _<_}
 use mathlib.Core.Path.{_≡_, refl, sym, _∙_, ap}
 use mathlib.Core.Bool.{Bool, true, false}
-use mathlib.Core.List.{List, [], _∷_, _++_}
+use mathlib.Core.List.{List, [], _∷_, _++_, map}
 use native.Mathlib.Omega.{arith}
 use lib.Dec.{ltb}
 use lib.IntN.{ℤ, pos, negsuc}
 use lib.ListN.{length, getD}
 use mir.Val.{sel}
-use Rattle.model.specs.Lists.{Each}
+use Rattle.model.specs.Answers.{Answer}
+use Rattle.model.specs.Lists.{Each, concat}
 use Rattle.model.specs.Values.{signed, low}
 use Rattle.model.specs.Syntax.{Atom, Expression, Statement, Transfer, Head, Block, SpawnCall, Function, Program, usesAtom, uses}
 use Rattle.model.specs.Pool.{temporaries}
 use Rattle.model.specs.Limits.{Temporaries, Arguments, InStatement, InTransfer, InHead, InBlock, InSpawn, InFunction, Limits}
 use Rattle.model.specs.Read as Read
-use Rattle.model.specs.Read.{Parsed, counted, pick}
+use Rattle.model.specs.Read.{Parsed, Parser, counted, pick}
 use Rattle.model.specs.Write as Write
 use Rattle.model.specs.Write.{Name, HoldsAtom, HoldsExpression, HoldsTransfer, HoldsBlock, HoldsFunction, Holds, Inverse}
 use Rattle.model.proofs.Facts.{eqb-true, ltb-false, each-map, each-both, each-append, each-left, each-right}
-use Rattle.model.proofs.Guarantees.{sized-is, is-sized, Reads, reads, reads-back}
+use Rattle.model.proofs.Guarantees.{sized-is, is-sized, Reads, reads, brief-reads, reads-back}
 use Rattle.model.proofs.Undoing.{Between, between-append, between-left, between-right, between-whole, whole-between, byte-stands}
 use Rattle.model.proofs.Undoing.{law-by, back, forth, law-as, Made, made, made-then, law-made, law-byte, law-many, law-numbered}
 use Rattle.model.proofs.Undoing.{law-counted, Kind, kind-made, kind-none, kinds-back, kind-reads}
 pub use Rattle.model.proofs.Undoing.{Stand, Law}
+
+-- bytes are written as they are
+pub bytes-are : (xs : List ℕ) → concat (map Write.byte xs) ≡ xs
+unfolding concat
+bytes-are [] = refl
+bytes-are (x ∷ xs) = ap {B = List ℕ} (λ l. x ∷ l) (bytes-are xs)
 
 -- a name, a temporary, numbers of two and of four bytes
 pub law-name : Law Read.name Write.byte Name
@@ -238,35 +245,56 @@ law-head =
     (λ c (h, (g, (i, j))). (refl, (record { parameters = h; scope = g; nesting = j }, i)))
     (λ H (h, g). ((H .parameters, (H .scope, H .nesting)), refl, refl, (h .parameters, (h .scope, (g, h .nesting)))))
 
+-- as version 2 has it: no scope and no nesting
+abbrev pub Bare : Head → Type 0
+Bare H = (H .scope ≡ 0) × (H .nesting ≡ [])
+
+pub law-bare : Law Read.bare Write.bare (λ H. HeldHead H × Bare H)
+unfolding Read.bare Write.bare
+law-bare =
+    law-made (made (λ x̄. record { parameters = x̄; scope = 0; nesting = [] }) law-arguments)
+    (λ x̄ h. (refl, ((record { parameters = h; scope = omega arith; nesting = omega arith }, tt), (refl, refl))))
+    (λ H ((h, n), (e, d)).
+    let Γ = sym e in let ρ = sym d in
+    (H .parameters, (λ i. record { parameters = H .parameters; scope = Γ i; nesting = ρ i }), refl, h .parameters))
+
 -- a block
 abbrev pub HeldBlock : Block → Type 0
 HeldBlock B = InBlock B × HoldsBlock B
 
-pub law-block : Law Read.block Write.block HeldBlock
-unfolding Read.blockBy Write.block
-law-block =
-    law-made
-    (made-then law-head
-    (λ h. made-then (law-counted law-statement 32) (λ c. made (λ t. record { head = h; code = c; transfer = t }) law-transfer)))
-    (λ (H, (c, T)) ((h, n), ((i, few), (t, u))). (
-      refl,
-      (
-        record { head = h; few = few; code = each-map (λ s (h : HeldStatement s). h .0) c i; transfer = t },
-        record { nesting = n; code = each-map (λ s (h : HeldStatement s). h .1) c i; transfer = u },
-      ),
-    ))
-    (λ B (h, g). (
-      (B .head, (B .code, B .transfer)),
-      refl,
-      refl,
-      (
-        (h .head, g .nesting),
+-- by any head, of which K holds
+module _ {p : Parser Head} {w : Head → List ℕ} {K : Head → Type 0} (l : Law p w (λ H. HeldHead H × K H)) where
+  abbrev Besides : Block → Type 0
+  Besides B = K (B .head)
+
+  pub law-blockBy : Law (Read.blockBy p) (Write.blockBy w) (λ B. HeldBlock B × Besides B)
+  unfolding Read.blockBy Write.blockBy
+  law-blockBy =
+      law-made
+      (made-then l
+      (λ h. made-then (law-counted law-statement 32) (λ c. made (λ t. record { head = h; code = c; transfer = t }) law-transfer)))
+      (λ (H, (c, T)) (((h, n), q), ((i, few), (t, u))). (
+        refl,
         (
-          (each-both InStatement (λ s. HoldsExpression (s .source)) (B .code) (h .code) (g .code), h .few),
-          (h .transfer, g .transfer),
+          (
+            record { head = h; few = few; code = each-map (λ s (h : HeldStatement s). h .0) c i; transfer = t },
+            record { nesting = n; code = each-map (λ s (h : HeldStatement s). h .1) c i; transfer = u },
+          ),
+          q,
         ),
-      ),
-    ))
+      ))
+      (λ B ((h, g), q). (
+        (B .head, (B .code, B .transfer)),
+        refl,
+        refl,
+        (
+          ((h .head, g .nesting), q),
+          (
+            (each-both InStatement (λ s. HoldsExpression (s .source)) (B .code) (h .code) (g .code), h .few),
+            (h .transfer, g .transfer),
+          ),
+        ),
+      ))
 
 -- a spawn call
 abbrev pub HeldSpawn : SpawnCall → Type 0
@@ -282,66 +310,115 @@ law-spawnCall =
 abbrev pub HeldFunction : Function → Type 0
 HeldFunction F = InFunction F × HoldsFunction F
 
-pub law-function : Law Read.function Write.function HeldFunction
-unfolding Read.functionBy Write.function
-law-function =
-    law-made
-    (made-then (law-byte 0 8)
-    (λ n. made-then (law-byte 0 4)
-    (λ r. made-then (law-byte 1 32)
-    (λ b. made-then (law-byte 0 8)
-    (λ c. made-then (law-many law-spawnCall c)
-    (λ π̄. made (λ B̄. record { signature = record { parameters = n; returns = r }; spawns = π̄; blocks = B̄ }) (law-many law-block b)))))))
-    (λ (n, (r, (b, (c, (π̄, B̄))))) (p, (q, (u, (v, ((h, e), (g, d)))))). (
-      rw (d, e),
-      (
-        record {
-          parameters = p .1;
-          returns = q .1;
-          fewSpawns = omega arith;
-          spawns = each-map (λ S (h : HeldSpawn S). h .0) π̄ h;
-          someBlock = omega arith;
-          fewBlocks = omega arith;
-          blocks = each-map (λ B (h : HeldBlock B). h .0) B̄ g;
-        },
-        record { spawns = each-map (λ S (h : HeldSpawn S). h .1) π̄ h; blocks = each-map (λ B (h : HeldBlock B). h .1) B̄ g },
-      ),
-    ))
-    (λ F (h, g). (
-      (F .signature .parameters, (F .signature .returns, (length (F .blocks), (length (F .spawns), (F .spawns, F .blocks))))),
-      refl,
-      refl,
-      (
-        (omega arith, h .parameters),
+module _ {p : Parser Head} {w : Head → List ℕ} {K : Head → Type 0} (l : Law p w (λ H. HeldHead H × K H)) where
+  -- K of each block's head
+  abbrev pub Within : Function → Type 0
+  Within F = Each (λ B. K (B .head)) (F .blocks)
+
+  pub law-functionBy : Law (Read.functionBy p) (Write.functionBy w) (λ F. HeldFunction F × Within F)
+  unfolding Read.functionBy Write.functionBy
+  law-functionBy =
+      law-made
+      (made-then (law-byte 0 8)
+      (λ n. made-then (law-byte 0 4)
+      (λ r. made-then (law-byte 1 32)
+      (λ b. made-then (law-byte 0 8)
+      (λ c. made-then (law-many law-spawnCall c)
+      (λ π̄. made (λ B̄. record { signature = record { parameters = n; returns = r }; spawns = π̄; blocks = B̄ })
+      (law-many (law-blockBy l) b)))))))
+      (λ (n, (r, (b, (c, (π̄, B̄))))) (p, (q, (u, (v, ((h, e), (g, d)))))). (
+        rw (d, e),
         (
-          (omega arith, h .returns),
           (
-            (h .someBlock, h .fewBlocks),
+            record {
+              parameters = p .1;
+              returns = q .1;
+              fewSpawns = omega arith;
+              spawns = each-map (λ S (h : HeldSpawn S). h .0) π̄ h;
+              someBlock = omega arith;
+              fewBlocks = omega arith;
+              blocks = each-map (λ B (h : HeldBlock B × K (B .head)). h .0 .0) B̄ g;
+            },
+            record {
+              spawns = each-map (λ S (h : HeldSpawn S). h .1) π̄ h;
+              blocks = each-map (λ B (h : HeldBlock B × K (B .head)). h .0 .1) B̄ g;
+            },
+          ),
+          each-map (λ B (h : HeldBlock B × K (B .head)). h .1) B̄ g,
+        ),
+      ))
+      (λ F ((h, g), q). (
+        (F .signature .parameters, (F .signature .returns, (length (F .blocks), (length (F .spawns), (F .spawns, F .blocks))))),
+        refl,
+        refl,
+        (
+          (omega arith, h .parameters),
+          (
+            (omega arith, h .returns),
             (
-              (omega arith, h .fewSpawns),
+              (h .someBlock, h .fewBlocks),
               (
-                (each-both InSpawn (λ S. Name (S .function)) (F .spawns) (h .spawns) (g .spawns), refl),
-                (each-both InBlock HoldsBlock (F .blocks) (h .blocks) (g .blocks), refl),
+                (omega arith, h .fewSpawns),
+                (
+                  (each-both InSpawn (λ S. Name (S .function)) (F .spawns) (h .spawns) (g .spawns), refl),
+                  (
+                    each-both HeldBlock (λ B. K (B .head)) (F .blocks)
+                        (each-both InBlock HoldsBlock (F .blocks) (h .blocks) (g .blocks)) q,
+                    refl,
+                  ),
+                ),
               ),
             ),
           ),
         ),
-      ),
-    ))
+      ))
 
 -- a program
 abbrev pub HeldProgram : Program → Type 0
 HeldProgram P = Limits P × Each HoldsFunction P
 
+module _ {p : Parser Head} {w : Head → List ℕ} {K : Head → Type 0} (l : Law p w (λ H. HeldHead H × K H)) where
+  pub law-programBy : Law (Read.programBy p) (Write.programBy w) (λ P. HeldProgram P × Each (λ F. Each (λ B. K (B .head)) (F .blocks)) P)
+  unfolding Read.programBy Write.programBy
+  law-programBy =
+      law-as (law-numbered (law-functionBy l) 1 16)
+      (λ P (h, (a, b)). (
+        (
+          record { some = a; few = b; functions = each-map (λ F (h : HeldFunction F × Each (λ B. K (B .head)) (F .blocks)). h .0 .0) P h },
+          each-map (λ F (h : HeldFunction F × Each (λ B. K (B .head)) (F .blocks)). h .0 .1) P h,
+        ),
+        each-map (λ F (h : HeldFunction F × Each (λ B. K (B .head)) (F .blocks)). h .1) P h,
+      ))
+      (λ P ((h, g), q). (
+        each-both HeldFunction (λ F. Each (λ B. K (B .head)) (F .blocks)) P (each-both InFunction HoldsFunction P (h .functions) g) q,
+        (h .some, h .few),
+      ))
+
+-- version 1: of its heads nothing is held besides
+law-full : Law Read.head Write.head (λ H. HeldHead H × Unit {0})
+law-full = law-as law-head (λ H h. (h, tt)) (λ H h. h .0)
+
+none-besides : {A : Type 0} (xs : List A) → Each (λ x. Unit {0}) xs
+none-besides [] = tt
+none-besides (x ∷ xs) = (tt, none-besides xs)
+
+pub law-block : Law Read.block Write.block HeldBlock
+law-block = law-as (law-blockBy law-full) (λ B h. h .0) (λ B h. (h, tt))
+
+pub law-function : Law Read.function Write.function HeldFunction
+law-function = law-as (law-functionBy law-full) (λ F h. h .0) (λ F h. (h, none-besides (F .blocks)))
+
+each-none : (P : Program) → Each (λ F. Each (λ B. Unit {0}) (F .blocks)) P
+each-none [] = tt
+each-none (F ∷ P) = (none-besides (F .blocks), each-none P)
+
 pub law-program : Law Read.program Write.program HeldProgram
-unfolding Read.programBy Write.program
-law-program =
-    law-as (law-numbered law-function 1 16)
-    (λ P (h, (a, b)). (
-      record { some = a; few = b; functions = each-map (λ F (h : HeldFunction F). h .0) P h },
-      each-map (λ F (h : HeldFunction F). h .1) P h,
-    ))
-    (λ P (h, g). (each-both InFunction HoldsFunction P (h .functions) g, (h .some, h .few)))
+law-program = law-as (law-programBy law-full) (λ P h. h .0) (λ P h. (h, each-none P))
+
+-- version 2
+pub law-brief : Law (Read.programBy Read.bare) (Write.programBy Write.bare)
+    (λ P. HeldProgram P × Each (λ F. Each (λ B. Bare (B .head)) (F .blocks)) P)
+law-brief = law-programBy law-bare
 
 -- a length field that is not 0 is the word at the start, and the other way round
 field-stands : (s : List ℕ) (n : ℕ) → Read.lengthField s ≡ n → 0 < n → Between s 0 4 (Write.word n)
@@ -376,7 +453,7 @@ written s P r =
     )
 
 read-written : (P : Program) → Holds P → Reads (Write.table P) P
-unfolding Write.table Write.word Write.half Write.program Write.counted
+unfolding Write.table Write.word Write.half Write.programBy Write.counted
 read-written P h =
     let s : List ℕ = Write.table P in
     let n : ℕ = length (Write.program P) + 5 in
@@ -396,3 +473,12 @@ inverse =
       written = λ s P e. written s P (reads s P e);
       reads = λ P h. reads-back (Write.table P) P (read-written P h);
     }
+
+-- a table of version 2 is its functions, and 5 bytes before them
+pub brief-written : (s : List ℕ) (P : Program) → Read.readBrief s ≡ Answer.given P
+    → (length s ≡ 5 + length (Write.programBy Write.bare P)) × HeldProgram P × Each (λ F. Each (λ B. Bare (B .head)) (F .blocks)) P
+brief-written s P e =
+    let r = brief-reads s P e in
+    let b = back law-brief s 5 P (length s) (r .program) in
+    let (held, bare) = law-brief .holds s 5 P (length s) (r .program) in
+    (b .end, held, bare)

@@ -3,9 +3,9 @@ use Prim.Native.Nat.{ℕ}
 use Rattle.model.specs.Numbers as No
 
 pub data Refusal : Type 0 where
-  plain : ℕ → Refusal  -- the number alone: 1, 2, 12 to 23
+  plain : ℕ → Refusal  -- the number alone: 1, 2, 12 to 24
   byte : ℕ → Refusal  -- 3, and the offset of the first bad byte
-  fault : ℕ → ℕ → ℕ → Refusal  -- 4 to 11, and the function and the block
+  fault : ℕ → ℕ → ℕ → Refusal  -- 4 to 11, 25 and 26, and the function and the block
 
 -- the number of a refusal
 unfoldable pub numberOf : Refusal → ℕ

@@ -79,6 +79,16 @@ cycle = 22
 abbrev pub room : ℕ
 room = 23
 
+-- a completion (24 to 26): lent words or output of another length, a block that is not reached, a function that nothing can pass
+abbrev pub lent : ℕ
+lent = 24
+
+abbrev pub unreached : ℕ
+unreached = 25
+
+abbrev pub impossible : ℕ
+impossible = 26
+
 -- the rules (1 to 10), in the order of document 01
 abbrev pub stmt : ℕ
 stmt = 1

@@ -175,6 +175,12 @@ head = do
   ρ ← counted 4 name
   pure (record { parameters = x̄; scope = Γ; nesting = ρ })
 
+-- a head as version 2 of the table has it: scope and nesting are left out
+unfoldable pub bare : Parser Head
+bare = do
+  x̄ ← arguments
+  pure (record { parameters = x̄; scope = 0; nesting = [] })
+
 -- what stands above a block's head takes the head's parser: a version of the table is an instance
 unfoldable pub blockBy : Parser Head → Parser Block
 blockBy p = do
@@ -213,6 +219,19 @@ programBy p = do
 abbrev pub program : Parser Program
 program = programBy head
 
+-- a version of the table: its number, how long it may be, and how it has a block's head
+pub record Version : Type 0 where
+  pub number : ℕ
+  pub most : ℕ
+  pub head : Parser Head
+
+abbrev pub full : Version
+full = record { number = 1; most = 16384; head = head }
+
+-- version 2, which the completion takes (S-4)
+abbrev pub brief : Version
+brief = record { number = 2; most = 12800; head = bare }
+
 -- the header: the total length, and the version; the functions begin at offset 5, with their number. Four numbers that are no
 -- bytes count as 0, which is no table's length
 unfoldable pub orZero : Parsed ℕ → ℕ
@@ -222,8 +241,11 @@ orZero (Parsed.bad place) = 0
 unfoldable pub lengthField : List ℕ → ℕ
 lengthField s = orZero (word s 0)
 
-unfoldable pub sized : List ℕ → ℕ → Bool
-sized s field = leb 6 (length s) && leb (length s) 16384 && eqb field (length s)
+unfoldable pub sizedAs : Version → List ℕ → ℕ → Bool
+sizedAs v s field = leb 6 (length s) && leb (length s) (v .most) && eqb field (length s)
+
+abbrev pub sized : List ℕ → ℕ → Bool
+sized s field = sizedAs full s field
 
 -- a program that ends where the table ends: the first byte left over is bad
 unfoldable pub whole : List ℕ → Parsed Program → Answer Program
@@ -231,11 +253,15 @@ whole s (Parsed.bad place) = Answer.refused (Refusal.byte place)
 whole s (Parsed.ok P at) = cond (eqb at (length s)) (Answer.given P) (Answer.refused (Refusal.byte at))
 
 -- 1, then 2, then 3: by the length field, the version, and the functions from an offset on
-unfoldable pub readFrom : List ℕ → ℕ → ℕ → ℕ → Answer Program
-readFrom s at field version =
-    cond (sized s field)
-    (cond (eqb version 1) (whole s (program s at)) (Answer.refused (Refusal.plain No.version)))
+unfoldable pub readAs : Version → List ℕ → ℕ → ℕ → ℕ → Answer Program
+readAs v s at field version =
+    cond (sizedAs v s field)
+    (cond (eqb version (v .number)) (whole s (programBy (v .head) s at)) (Answer.refused (Refusal.plain No.version)))
     (Answer.refused (Refusal.plain No.size))
 
+-- a table of version 1, which every call but the completion takes; and one of version 2
 unfoldable pub read : List ℕ → Answer Program
-read s = readFrom s 5 (lengthField s) (getD s 4 0)
+read s = readAs full s 5 (lengthField s) (getD s 4 0)
+
+unfoldable pub readBrief : List ℕ → Answer Program
+readBrief s = readAs brief s 5 (lengthField s) (getD s 4 0)

@@ -55,19 +55,33 @@ transfer (Transfer.spoin b c) = 5 ∷ b ∷ c ∷ []
 unfoldable pub head : Head → List ℕ
 head H = arguments (H .parameters) ++ (half (H .scope) ++ arguments (H .nesting))
 
-unfoldable pub block : Block → List ℕ
-block B = head (B .head) ++ (counted statement (B .code) ++ transfer (B .transfer))
+-- a head as version 2 has it
+unfoldable pub bare : Head → List ℕ
+bare H = arguments (H .parameters)
+
+-- what stands above a block's head takes the head's writer, as Read takes its parser
+unfoldable pub blockBy : (Head → List ℕ) → Block → List ℕ
+blockBy w B = w (B .head) ++ (counted statement (B .code) ++ transfer (B .transfer))
+
+abbrev pub block : Block → List ℕ
+block B = blockBy head B
 
 unfoldable pub spawnCall : SpawnCall → List ℕ
 spawnCall S = S .function ∷ arguments (S .arguments)
 
-unfoldable pub function : Function → List ℕ
-function F =
+unfoldable pub functionBy : (Head → List ℕ) → Function → List ℕ
+functionBy w F =
     F .signature .parameters ∷ F .signature .returns ∷ length (F .blocks) ∷ length (F .spawns) ∷
-    (concat (map spawnCall (F .spawns)) ++ concat (map block (F .blocks)))
+    (concat (map spawnCall (F .spawns)) ++ concat (map (blockBy w) (F .blocks)))
 
-unfoldable pub program : Program → List ℕ
-program P = counted function P
+abbrev pub function : Function → List ℕ
+function F = functionBy head F
+
+unfoldable pub programBy : (Head → List ℕ) → Program → List ℕ
+programBy w P = counted (functionBy w) P
+
+abbrev pub program : Program → List ℕ
+program P = programBy head P
 
 -- the table: its length, version 1, and the functions
 unfoldable pub table : Program → List ℕ

@@ -155,7 +155,7 @@ rows =
 pub right : map (λ r. tidy (r .bytes) (r .out)) rows ≡ map (λ r. r .wrote) rows
 unfolding all
     accepted targets sporkedBy calledBy Write.half Write.word Write.counted Write.arguments Write.atom Write.expression Write.statement
-    Write.transfer Write.head Write.block Write.spawnCall Write.function Write.program Write.table Renamed.transfer Renamed.head
+    Write.transfer Write.head Write.blockBy Write.spawnCall Write.functionBy Write.programBy Write.table Renamed.transfer Renamed.head
     Renamed.block Renamed.spawnCall Mentions.of Mentions.targetsOf Mentions.spawnsOf Mentions.spawned Mentions.functionsOf Tidy.member
     Tidy.mention Tidy.mentions Tidy.onward Tidy.grown Tidy.keptBlocks Tidy.keptSpawns Tidy.mentionedIn Tidy.keptFunctions Tidy.place
     Tidy.before Tidy.picked Tidy.namesIn Tidy.tidyFunction Tidy.tidied Tidy.put Tidy.putting tidy

@@ -55,7 +55,7 @@ module _ (N : Names) where
   transfer-length (Transfer.spoin b c) = refl
 
   block-length : (B : Block) → length (Write.block (Renamed.block N B)) ≡ length (Write.block B)
-  unfolding Write.block Write.head Renamed.block Renamed.head
+  unfolding Write.blockBy Write.head Renamed.block Renamed.head
   block-length B = simp (length-append, names-length, transfer-length)
 
   spawn-length : (S : SpawnCall) → length (Write.spawnCall (Renamed.spawnCall N S)) ≡ length (Write.spawnCall S)
@@ -64,7 +64,7 @@ module _ (N : Names) where
 
 -- a function with what is kept of it, and the table
 function-shorter : (fs : List ℕ) (F : Function) → length (Write.function (tidyFunction fs F)) ≤ length (Write.function F)
-unfolding Write.function tidyFunction
+unfolding Write.functionBy tidyFunction
 function-shorter fs F =
     let N : Names = namesIn fs F in
     let s : length (concat (map Write.spawnCall (map (Renamed.spawnCall N) (picked (F .spawns) (keptSpawns F))))) ≤
@@ -78,7 +78,7 @@ function-shorter fs F =
     simp length-append (omega arith)
 
 pub tidied-shorter : (P : Program) → length (Write.table (tidied P)) ≤ length (Write.table P)
-unfolding Write.table Write.program Write.counted Write.word Write.half tidied
+unfolding Write.table Write.programBy Write.counted Write.word Write.half tidied
 tidied-shorter P =
     let fs : List ℕ = keptFunctions P in
     omega (

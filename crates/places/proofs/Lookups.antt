@@ -16,8 +16,8 @@ use Rattle.places.specs.declared.Place.{Place}
 use Rattle.places.specs.declared.Place.the-variants.{Nowhere}
 use Rattle.places.specs.Layout.{functions, spawns, blocks, absent, functionIndex, blockIndex, spawnIndex, lengthIndex}
 use Rattle.places.specs.Marks.{lengthOf}
-use Rattle.places.specs.Places.{placeOf, codeOf, Heads, FoundCode, FindsCodeBy, spawnIn, Entry, PlacesBy, Found, FindsFunctionBy}
-use Rattle.places.specs.Places.{FindsBlockBy, FindsSpawnBy}
+use Rattle.places.specs.Places.{placeOf, codeOf, Heads, FoundCode, FindsCode, spawnIn, Entry, PlacesBy, Found, FindsFunction}
+use Rattle.places.specs.Places.{FindsBlock, FindsSpawn}
 
 -- an entry is the place of what is there
 pub found : {A : Type 0} (p : Parser A) (s : List ℕ) (at : ℕ) (o : Option A) → Entry p s at o → Found p s (placeOf at) o
@@ -55,50 +55,50 @@ module _ (P : Program) (L : Limits P) (f : ℕ) where
       go (some F) e = past-at (F .spawns) π (omega (arith, within e .fewSpawns))
 
 -- for any head
-module _ {p : Parser Head} (places : List ℕ) (f : ℕ) where
-  pub function-at : {r : Place} → r ≡ placeOf (getD places (functionIndex f) 0) → f < functions → FindsFunctionBy p places f r
-  function-at e l s P h = rw e (found (functionBy p) s (getD places (functionIndex f) 0) (getElem? P f) (h .functions f l))
+module _ (places : List ℕ) (f : ℕ) where
+  pub function-at : {r : Place} → r ≡ placeOf (getD places (functionIndex f) 0) → f < functions → FindsFunction places f r
+  function-at e l s P p h = rw e (found (functionBy p) s (getD places (functionIndex f) 0) (getElem? P f) (h .functions f l))
 
-  pub function-past : functions ≤ f → FindsFunctionBy p places f Nowhere
-  function-past l s P h = no-function P (h .limits) f l
+  pub function-past : functions ≤ f → FindsFunction places f Nowhere
+  function-past l s P p h = no-function P (h .limits) f l
 
   pub block-at : (b : ℕ) {r : Place} → r ≡ placeOf (getD places (blockIndex f b) 0) → f < functions → b < blocks
-      → FindsBlockBy p places f b r
-  block-at b e l m s P h =
+      → FindsBlock places f b r
+  block-at b e l m s P p h =
       rw e (found (blockBy p) s (getD places (blockIndex f b) 0) (blockIn (getElem? P f) b) (h .blocks f b l m))
 
   pub code-at : (b : ℕ) {r : Place} → r ≡ codeOf (getD places (blockIndex f b) 0) b (getD places (lengthIndex f b) 0)
-      → f < functions → b < blocks → FindsCodeBy p places f b r
-  code-at b e l m s P h =
+      → f < functions → b < blocks → FindsCode places f b r
+  code-at b e l m s P p h =
       rw e
       (coded p s (getD places (blockIndex f b) 0) b (getD places (lengthIndex f b) 0) (blockIn (getElem? P f) b) (h .blocks f b l m)
       (h .heads f b l m))
 
-  pub code-past : (b : ℕ) → blocks ≤ b → FindsCodeBy p places f b Nowhere
-  code-past b l s P h = no-block P (h .limits) f b l
+  pub code-past : (b : ℕ) → blocks ≤ b → FindsCode places f b Nowhere
+  code-past b l s P p h = no-block P (h .limits) f b l
 
-  pub code-none : (b : ℕ) → functions ≤ f → FindsCodeBy p places f b Nowhere
+  pub code-none : (b : ℕ) → functions ≤ f → FindsCode places f b Nowhere
   unfolding blockIn
-  code-none b l s P h = rw (no-function P (h .limits) f l) refl
+  code-none b l s P p h = rw (no-function P (h .limits) f l) refl
 
-  pub block-past : (b : ℕ) → blocks ≤ b → FindsBlockBy p places f b Nowhere
-  block-past b l s P h = no-block P (h .limits) f b l
+  pub block-past : (b : ℕ) → blocks ≤ b → FindsBlock places f b Nowhere
+  block-past b l s P p h = no-block P (h .limits) f b l
 
-  pub block-none : (b : ℕ) → functions ≤ f → FindsBlockBy p places f b Nowhere
+  pub block-none : (b : ℕ) → functions ≤ f → FindsBlock places f b Nowhere
   unfolding blockIn
-  block-none b l s P h = rw (no-function P (h .limits) f l) refl
+  block-none b l s P p h = rw (no-function P (h .limits) f l) refl
 
   pub spawn-at : (π : ℕ) {r : Place} → r ≡ placeOf (getD places (spawnIndex f π) 0) → f < functions → π < spawns
-      → FindsSpawnBy p places f π r
-  spawn-at π e l m s P h =
+      → FindsSpawn places f π r
+  spawn-at π e l m s P p h =
       rw e (found spawnCall s (getD places (spawnIndex f π) 0) (spawnIn (getElem? P f) π) (h .spawns f π l m))
 
-  pub spawn-past : (π : ℕ) → spawns ≤ π → FindsSpawnBy p places f π Nowhere
-  spawn-past π l s P h = no-spawn P (h .limits) f π l
+  pub spawn-past : (π : ℕ) → spawns ≤ π → FindsSpawn places f π Nowhere
+  spawn-past π l s P p h = no-spawn P (h .limits) f π l
 
-  pub spawn-none : (π : ℕ) → functions ≤ f → FindsSpawnBy p places f π Nowhere
+  pub spawn-none : (π : ℕ) → functions ≤ f → FindsSpawn places f π Nowhere
   unfolding spawnIn
-  spawn-none π l s P h = rw (no-function P (h .limits) f l) refl
+  spawn-none π l s P p h = rw (no-function P (h .limits) f l) refl
 
 -- a length by the block's parity: so many bits down, and eight of them
 pub length-shifted : (b both : ℕ) → both < 65536 → both / 2 ^ (8 * (b % 2)) % 256 ≡ lengthOf b both

@@ -79,29 +79,19 @@ abbrev pub FoundCode : Parser Head → List ℕ → Place → Option Block → T
 FoundCode p s (At e) o = (B : Block) × (o ≡ some B) × CodeAt p s e B
 FoundCode p s Nowhere o = o ≡ none
 
--- the contracts of the lookups, for every table and program that the array has the places of
-abbrev pub FindsFunctionBy : Parser Head → List ℕ → ℕ → Place → Type 0
-FindsFunctionBy p places f r = (s : List ℕ) (P : Program) → PlacesBy p s P places → Found (functionBy p) s r (getElem? P f)
-
-abbrev pub FindsBlockBy : Parser Head → List ℕ → ℕ → ℕ → Place → Type 0
-FindsBlockBy p places f b r =
-    (s : List ℕ) (P : Program) → PlacesBy p s P places → Found (blockBy p) s r (blockIn (getElem? P f) b)
-
-abbrev pub FindsSpawnBy : Parser Head → List ℕ → ℕ → ℕ → Place → Type 0
-FindsSpawnBy p places f π r =
-    (s : List ℕ) (P : Program) → PlacesBy p s P places → Found spawnCall s r (spawnIn (getElem? P f) π)
-
+-- the contracts of the lookups, for every table and program that the array has the places of, whatever its heads are read by
 abbrev pub FindsFunction : List ℕ → ℕ → Place → Type 0
-FindsFunction places f r = FindsFunctionBy Read.head places f r
+FindsFunction places f r =
+    (s : List ℕ) (P : Program) (p : Parser Head) → PlacesBy p s P places → Found (functionBy p) s r (getElem? P f)
 
 abbrev pub FindsBlock : List ℕ → ℕ → ℕ → Place → Type 0
-FindsBlock places f b r = FindsBlockBy Read.head places f b r
+FindsBlock places f b r =
+    (s : List ℕ) (P : Program) (p : Parser Head) → PlacesBy p s P places → Found (blockBy p) s r (blockIn (getElem? P f) b)
 
 abbrev pub FindsSpawn : List ℕ → ℕ → ℕ → Place → Type 0
-FindsSpawn places f π r = FindsSpawnBy Read.head places f π r
-
-abbrev pub FindsCodeBy : Parser Head → List ℕ → ℕ → ℕ → Place → Type 0
-FindsCodeBy p places f b r = (s : List ℕ) (P : Program) → PlacesBy p s P places → FoundCode p s r (blockIn (getElem? P f) b)
+FindsSpawn places f π r =
+    (s : List ℕ) (P : Program) (p : Parser Head) → PlacesBy p s P places → Found spawnCall s r (spawnIn (getElem? P f) π)
 
 abbrev pub FindsCode : List ℕ → ℕ → ℕ → Place → Type 0
-FindsCode places f b r = FindsCodeBy Read.head places f b r
+FindsCode places f b r =
+    (s : List ℕ) (P : Program) (p : Parser Head) → PlacesBy p s P places → FoundCode p s r (blockIn (getElem? P f) b)

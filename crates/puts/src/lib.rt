@@ -5,7 +5,8 @@ ghost use mathlib.Core.Path.{_≡_};
 ghost use mathlib.Core.List.{[], _∷_};
 ghost use lib.ListN.{length};
 ghost use lib.Seq.{sets};
-ghost use Rattle.puts.specs.Puts.{Puts};
+ghost use Rattle.model.specs.Write as Write;
+ghost use Rattle.puts.specs.Puts.{Puts, stretch};
 
 // The place behind a byte. The greatest number stays.
 fn behind(at: usize) -> usize
@@ -73,4 +74,32 @@ pub fn bytes(out: &mut [u8], at: usize, s: &[u8]) -> usize
         return at + s.len();
     }
     one_by_one(out, at, s)
+}
+
+// The bytes of s between two offsets; none where these are not two offsets of s in their order.
+pub fn stretch(out: &mut [u8], at: usize, s: &[u8], from: usize, to: usize) -> usize
+    ensures { λ r. ⌜ Puts (now (out .entry)) at (stretch (now (s .entry)) from to) r (now (out .exit)) ⌝ }
+{
+    if to < from {
+        return at;
+    }
+    if s.len() < to {
+        return at;
+    }
+    bytes(out, at, &s[from..to])
+}
+
+// A number of two bytes, and of four, big-endian.
+pub fn half(out: &mut [u8], at: usize, n: u16) -> usize
+    ensures { λ r. ⌜ Puts (now (out .entry)) at (Write.half n) r (now (out .exit)) ⌝ }
+{
+    let k = byte(out, at, (n / 256) as u8);
+    byte(out, k, (n % 256) as u8)
+}
+
+pub fn word(out: &mut [u8], at: usize, n: u32) -> usize
+    ensures { λ r. ⌜ Puts (now (out .entry)) at (Write.word n) r (now (out .exit)) ⌝ }
+{
+    let k = half(out, at, (n / 65536) as u16);
+    half(out, k, (n % 65536) as u16)
 }

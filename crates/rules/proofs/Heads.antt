@@ -48,13 +48,13 @@ module _ (s places : List ℕ) (f b n : ℕ) (does : Does) (x : ℕ) (place : Pl
   module _ (at : ℕ) {c : ℕ} (w : place ≡ At at) (e : c ≡ countAt s at) where
     found : (P : Program) → Places s P places → blockIn (getElem? P f) b ≡ some (blockAt s at)
     found P p =
-        let (B, q, t) = subst (FindsBlock places f b) w d s P p in
+        let (B, q, t) = subst (FindsBlock places f b) w d s P _ p in
         q ∙ ap some (block-is s at B (t .behind) (p .short) (t .is))
 
     parameters : (P : Program) → Places s P places → Each (λ x. x < temporaries) (argumentsAt s at)
     unfolding blockAt headAt
     parameters P p =
-        let (B, q, t) = subst (FindsBlock places f b) w d s P p in
+        let (B, q, t) = subst (FindsBlock places f b) w d s P _ p in
         subst (λ (C : Block). Each (λ x. x < temporaries) (C .head .parameters)) (block-is s at B (t .behind) (p .short) (t .is))
         (Guarantees.block .gives s at B (t .behind) (t .is) .head .parameters .each)
 
@@ -84,7 +84,7 @@ module _ (s places : List ℕ) (f b n : ℕ) (does : Does) (x : ℕ) (place : Pl
 
   pub not-there : (r : Acted) → place ≡ Nowhere → r ≡ jam → Enters s places f b n does x r
   unfolding enter blockOf functionOf
-  not-there r w q P p = Entering.jams q (λ m v̄ h l. rw (h, subst (FindsBlock places f b) w d s P p))
+  not-there r w q P p = Entering.jams q (λ m v̄ h l. rw (h, subst (FindsBlock places f b) w d s P _ p))
 
 -- a callee: it is there, or not
 module _ (s places : List ℕ) (g n : ℕ) (place : Place) (d : FindsFunction places g place) where
@@ -93,7 +93,7 @@ module _ (s places : List ℕ) (g n : ℕ) (place : Place) (d : FindsFunction pl
   takes-at at {c} w e =
       record {
         is = λ P p v̄ l.
-            let (G, q, t) = subst (FindsFunction places g) w d s P p in
+            let (G, q, t) = subst (FindsFunction places g) w d s P _ p in
             let y = ap (λ (S : Signature). S .parameters) (signature-is s at G (t .behind) (p .short) (t .is)) ∙ sym e in
             rw (q, y, l) (go v̄ (eqb c n));
       }
@@ -104,7 +104,7 @@ module _ (s places : List ℕ) (g n : ℕ) (place : Place) (d : FindsFunction pl
 
   pub takes-none : place ≡ Nowhere → Takes s places g n false
   unfolding callee
-  takes-none w = record { is = λ P p v̄ l. rw (subst (FindsFunction places g) w d s P p) }
+  takes-none w = record { is = λ P p v̄ l. rw (subst (FindsFunction places g) w d s P _ p) }
 
 -- a function's spawn call, in one step
 pub spawn-then : {A : Type 0} (o : Option Function) (π : ℕ) (f : SpawnCall → Option A)
@@ -128,13 +128,13 @@ module _ (s places : List ℕ) (m : Frame) (π : ℕ) (r : Acted) (place : Place
   pub no-spawn : (out : List ℤ) → place ≡ Nowhere → r ≡ jam → Spawns s places m π out r out
   unfolding spawnsOf
   no-spawn out w e P p =
-      let c = subst (FindsSpawn places f π) w d s P p in
+      let c = subst (FindsSpawn places f π) w d s P _ p in
       record { is = no-child P out e (child-is P ∙ rw c); refused = λ y. e; left = filled-none m out ∙ rw (← h, c) }
 
   module _ (out₀ out : List ℤ) (at : ℕ) (ok : Bool) {l : ℕ} (w : place ≡ At at) (e₁ : l ≡ past at 1) (e₂ : Looks m s l out₀ ok out) where
     spawn-there : (P : Program) → Places s P places → spawnIn (getElem? P f) π ≡ some (spawnAt s at)
     spawn-there P p =
-        let (S, q, i) = subst (FindsSpawn places f π) w d s P p in
+        let (S, q, i) = subst (FindsSpawn places f π) w d s P _ p in
         q ∙ ap some (spawn-is s at S (i .behind) (p .short) (i .is))
 
     child-at : (P : Program) → Places s P places

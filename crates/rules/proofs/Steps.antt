@@ -145,7 +145,7 @@ module _ (s places : List ℕ) (m : Frame) (at : ℕ) (out₀ out : List ℤ) (r
       call-nowhere w h =
           record {
             is = λ P p.
-                let c = subst (FindsBlock places f b) w d s P p in
+                let c = subst (FindsBlock places f b) w d s P _ p in
                 passing (refused s m out r h (rw (given t, callee-is P p, not-false there u, return-block, ← q, c)));
           }
 
@@ -154,7 +154,7 @@ module _ (s places : List ℕ) (m : Frame) (at : ℕ) (out₀ out : List ℤ) (r
       call-goes j w h =
           record {
             is = λ P p.
-                let (B, c, _) = subst (FindsBlock places f b) w d s P p in
+                let (B, c, _) = subst (FindsBlock places f b) w d s P _ p in
                 passing
                 (rw h (record { act = sym (rw (given t, callee-is P p, not-false there u, return-block, ← q, c)); sound = tt }));
           }
@@ -265,7 +265,7 @@ module _ (s places : List ℕ) (m : Frame) (at : ℕ) (r : Acted) (place : Place
   unfolding argumentsOf by
   spork-missing w e =
       moves s places m (sporkAt s at) r refl
-      (λ P p out. let c = subst (FindsSpawn places f π) w d s P p in refused s m out r e (spork-is P ∙ rw c))
+      (λ P p out. let c = subst (FindsSpawn places f π) w d s P _ p in refused s m out r e (spork-is P ∙ rw c))
 
   module _ (i : ℕ) (w : place ≡ At i) {n : ℕ} (z : n ≡ length (m .calls)) where
     pub spork-full : mostCalls ≤ n → r ≡ jam → Moves s places m (sporkAt s at) r
@@ -273,7 +273,7 @@ module _ (s places : List ℕ) (m : Frame) (at : ℕ) (r : Acted) (place : Place
     spork-full l e =
         moves s places m (sporkAt s at) r refl
         (λ P p out.
-        let (S, q, _) = subst (FindsSpawn places f π) w d s P p in
+        let (S, q, _) = subst (FindsSpawn places f π) w d s P _ p in
         refused s m out r e (spork-is P ∙ rw (q, ← z, le-ltb n mostCalls l)))
 
     pub spork-goes : {b : ℕ} → n < mostCalls → b ≡ byteAt s at → Enters s places f b 0 Open π r → Moves s places m (sporkAt s at) r
@@ -281,7 +281,7 @@ module _ (s places : List ℕ) (m : Frame) (at : ℕ) (r : Acted) (place : Place
     spork-goes {b} l e₃ e =
         moves s places m (sporkAt s at) r refl
         (λ P p out.
-        let (S, q, _) = subst (FindsSpawn places f π) w d s P p in
+        let (S, q, _) = subst (FindsSpawn places f π) w d s P _ p in
         is-to s m out r
         (moved s m out r P Open No.spork f b π (deque m (m .calls ++ (π ∷ [])) (m .promoted)) (λ a e. rw e) (rw (← z) l) (sym h) (e P p))
         (sym (spork-is P ∙ rw (q, ← z, lt-ltb n mostCalls l, ← e₃))))
@@ -439,13 +439,13 @@ module _ (s places : List ℕ) (m : Frame) (place : Place) {f b : ℕ} (h : f �
     (d : FindsCode places f b place) (P : Program) (p : Places s P places) where
   pub block-none : place ≡ Nowhere → blockOf P m (m .block) ≡ none
   unfolding blockOf functionOf
-  block-none w = rw (← h, ← g) (subst (FindsCode places f b) w d s P p)
+  block-none w = rw (← h, ← g) (subst (FindsCode places f b) w d s P _ p)
 
   pub block-some : (at : ℕ) → place ≡ At at
       → (H : Head) × (blockOf P m (m .block) ≡ some (coded H s at)) × Each InStatement (codeAt s at)
   unfolding blockOf functionOf
   block-some at w =
-      let (B, q, t) = subst (FindsCode places f b) w d s P p in
+      let (B, q, t) = subst (FindsCode places f b) w d s P _ p in
       let is : B ≡ coded (headAt s (t .at)) s at = code-is s (t .at) B (t .block .behind) at (p .short) (t .block .is) (t .head) in (
         headAt s (t .at),
         rw (← h, ← g) (q ∙ ap some is),

@@ -10,8 +10,10 @@ use lib.ListN.{length, getD}
 use Rattle.model.specs.Numbers as No
 use Rattle.model.specs.Answers.{Refusal, Answer, outcome}
 use Rattle.model.specs.Syntax.{Program}
-use Rattle.model.specs.Read.{Parsed, byte, half, word, next, program, orZero, lengthField, sized, whole, readFrom, read}
-use Rattle.model.proofs.Guarantees.{sized-is, reads}
+use Rattle.model.specs.Read.{Parsed, byte, half, word, next, programBy, orZero, lengthField, Version, sizedAs, whole, readAs, read}
+use Rattle.model.specs.Read.{readBrief}
+use Rattle.model.specs.Read as Read
+use Rattle.model.proofs.Guarantees.{sized-is, ReadsAs, reads, brief-reads}
 use Rattle.code.specs.Bytes.{byteAt, past, halfAt, wordAt}
 use Rattle.answers.specs.declared.Answer as Code
 use Rattle.answers.specs.declared.Answer.the-variants.{Given, Refused}
@@ -19,60 +21,71 @@ use Rattle.answers.specs.declared.Refusal as Why
 use Rattle.answers.specs.declared.Refusal.the-variants.{Plain, Byte}
 use Rattle.answers.specs.Answers.{refusalOf, answerOf}
 use Rattle.places.specs.Marks.{nowhere}
-use Rattle.places.specs.Places.{Places}
+use Rattle.places.specs.Places.{Places, PlacesBy}
 use Rattle.table.specs.Skips.{skipOf}
-use Rattle.table.specs.Marks.{programMarks, Kept}
-use Rattle.table.specs.Reading.{leaves, ReadAs, ReadFrom}
+use Rattle.table.specs.Versions.{versionOf, headOf, readOf}
+use Rattle.table.specs.Marks.{programMarksBy, Kept}
+use Rattle.table.specs.Reading.{leavesBy, leaves, ReadBy, ReadFrom}
 use Rattle.table.specs.declared.grammar.Skip.{Skip}
 use Rattle.table.proofs.Marks.{kept-at}
-use Rattle.table.proofs.Placed.{heads, placed}
+use Rattle.table.proofs.Placed.{heads-of, placed}
 
 -- the size
-module _ (s : List ℕ) (field : ℕ) where
-  pub too-short : length s < 6 → false ≡ sized s field
-  unfolding sized
+module _ (v : Version) (s : List ℕ) (field : ℕ) where
+  pub too-short : length s < 6 → false ≡ sizedAs v s field
+  unfolding sizedAs
   too-short h = simp (lt-leb 6 (length s) h)
 
-  pub too-long : 6 ≤ length s → 16384 < length s → false ≡ sized s field
-  unfolding sized
-  too-long h l = simp (le-leb 6 (length s) h, lt-leb (length s) 16384 l)
+  pub too-long : 6 ≤ length s → v .most < length s → false ≡ sizedAs v s field
+  unfolding sizedAs
+  too-long h l = simp (le-leb 6 (length s) h, lt-leb (length s) (v .most) l)
 
-  pub in-limits : 6 ≤ length s → length s ≤ 16384 → eqb field (length s) ≡ sized s field
-  unfolding sized
-  in-limits h l = simp (le-leb 6 (length s) h, le-leb (length s) 16384 l)
+  pub in-limits : 6 ≤ length s → length s ≤ v .most → eqb field (length s) ≡ sizedAs v s field
+  unfolding sizedAs
+  in-limits h l = simp (le-leb 6 (length s) h, le-leb (length s) (v .most) l)
 
 -- reading from an offset on: what was read, and the code's answer r with the places l
-module _ (s : List ℕ) (at field version : ℕ) (before l : List ℕ) (r : Code.Answer) (bytes : (i : ℕ) → getD s i 0 < 256) where
-  from-refused : (why : Why.Refusal) → readFrom s at field version ≡ Answer.refused (refusalOf why)
-      → (r ≡ Refused why) × (l ≡ nowhere) → ReadFrom s at field version before l r
-  unfolding outcome leaves
+module _ (brief : Bool) (s : List ℕ) (at field version : ℕ) (before l : List ℕ) (r : Code.Answer)
+    (bytes : (i : ℕ) → getD s i 0 < 256) where
+  abbrev v : Version
+  v = versionOf brief
+
+  abbrev found : Answer Program
+  found = readAs v s at field version
+
+  abbrev program : Parsed Program
+  program = programBy (v .head) s at
+
+  from-refused : (why : Why.Refusal) → found ≡ Answer.refused (refusalOf why)
+      → (r ≡ Refused why) × (l ≡ nowhere) → ReadFrom brief s at field version before l r
+  unfolding outcome leavesBy
   from-refused why e (d, o) =
       record {
         answer = ap answerOf d ∙ ap outcome (sym e);
-        placed = o ∙ ap (leaves s at before) (sym e);
+        placed = o ∙ ap (leavesBy (v .head) s at before) (sym e);
         bytes = bytes;
       }
 
-  pub no-size : sized s field ≡ false → (r ≡ Refused (Plain No.size)) × (l ≡ nowhere) → ReadFrom s at field version before l r
-  unfolding readFrom
+  pub no-size : sizedAs v s field ≡ false → (r ≡ Refused (Plain No.size)) × (l ≡ nowhere) → ReadFrom brief s at field version before l r
+  unfolding readAs
   no-size h = from-refused (Plain No.size) (simp h)
 
-  module _ (z : sized s field ≡ true) where
-    pub no-version : (version ≡ 1 → ⊥) → (r ≡ Refused (Plain No.version)) × (l ≡ nowhere) → ReadFrom s at field version before l r
-    unfolding readFrom
-    no-version h = from-refused (Plain No.version) (simp (z, ne-eqb version 1 h))
+  module _ (z : sizedAs v s field ≡ true) where
+    pub no-version : (version ≡ v .number → ⊥) → (r ≡ Refused (Plain No.version)) × (l ≡ nowhere)
+        → ReadFrom brief s at field version before l r
+    unfolding readAs
+    no-version h = from-refused (Plain No.version) (simp (z, ne-eqb version (v .number) h))
 
-    module _ (v : version ≡ 1) (q : Skip) (x : ℕ) (e : q ≡ skipOf (program s at)) where
-      wholly : (p : Parsed Program) → program s at ≡ p → readFrom s at field version ≡ whole s p
-      unfolding readFrom
-      wholly p e = simp (z, eq-eqb version 1 v, e)
+    module _ (n : version ≡ v .number) (q : Skip) (x : ℕ) (e : q ≡ skipOf program) where
+      wholly : (p : Parsed Program) → program ≡ p → found ≡ whole s p
+      unfolding readAs
+      wholly p e = simp (z, eq-eqb version (v .number) n, e)
 
-      pub bad-byte : q ≡ Skip.Bad x → (r ≡ Refused (Byte x)) × (l ≡ nowhere) → ReadFrom s at field version before l r
+      pub bad-byte : q ≡ Skip.Bad x → (r ≡ Refused (Byte x)) × (l ≡ nowhere) → ReadFrom brief s at field version before l r
       unfolding skipOf whole
-      bad-byte a = from-refused (Byte x) (go (program s at) refl (sym e ∙ a))
+      bad-byte a = from-refused (Byte x) (go program refl (sym e ∙ a))
         where
-          go : (p : Parsed Program) → program s at ≡ p → skipOf p ≡ Skip.Bad x
-              → readFrom s at field version ≡ Answer.refused (Refusal.byte x)
+          go : (p : Parsed Program) → program ≡ p → skipOf p ≡ Skip.Bad x → found ≡ Answer.refused (Refusal.byte x)
           go (Parsed.ok P m) h f = absurd (let z : _≡_ {A = ℕ} 0 1 = cc in omega arith)
           go (Parsed.bad y) h f =
               wholly (Parsed.bad y) h ∙ ap (λ (y : ℕ). Answer.refused (Refusal.byte y)) (let i : y ≡ x = cc in i)
@@ -83,20 +96,21 @@ module _ (s : List ℕ) (at field version : ℕ) (before l : List ℕ) (r : Code
         ends (Parsed.ok P m) f = (P, ap (Parsed.ok P) (let i : m ≡ x = cc in i))
         ends (Parsed.bad y) f = absurd (let z : _≡_ {A = ℕ} 0 1 = cc in omega arith)
 
-        pub left-over : (x ≡ length s → ⊥) → (r ≡ Refused (Byte x)) × (l ≡ nowhere) → ReadFrom s at field version before l r
+        pub left-over : (x ≡ length s → ⊥) → (r ≡ Refused (Byte x)) × (l ≡ nowhere) → ReadFrom brief s at field version before l r
         unfolding whole
-        left-over n =
-            let p = ends (program s at) (sym e ∙ a) in
-            from-refused (Byte x) (wholly _ (p .1) ∙ simp (ne-eqb x (length s) n))
+        left-over u =
+            let p = ends program (sym e ∙ a) in
+            from-refused (Byte x) (wholly _ (p .1) ∙ simp (ne-eqb x (length s) u))
 
-        pub all-read : x ≡ length s → r ≡ Given → Kept q l (programMarks s at before) → ReadFrom s at field version before l r
-        unfolding outcome leaves whole
-        all-read n g k =
-            let p = ends (program s at) (sym e ∙ a) in
-            let is : readFrom s at field version ≡ Answer.given (p .0) = wholly _ (p .1) ∙ simp (eq-eqb x (length s) n) in
+        pub all-read : x ≡ length s → r ≡ Given → Kept q l (programMarksBy (v .head) s at before)
+            → ReadFrom brief s at field version before l r
+        unfolding outcome leavesBy whole
+        all-read u g k =
+            let p = ends program (sym e ∙ a) in
+            let is : found ≡ Answer.given (p .0) = wholly _ (p .1) ∙ simp (eq-eqb x (length s) u) in
             record {
               answer = ap answerOf g ∙ ap outcome (sym is);
-              placed = kept-at q l _ x k a ∙ ap (leaves s at before) (sym is);
+              placed = kept-at q l _ x k a ∙ ap (leavesBy (v .head) s at before) (sym is);
               bytes = bytes;
             }
 
@@ -122,39 +136,63 @@ module _ (s : List ℕ) (bytes : (i : ℕ) → getD s i 0 < 256) where
   unfolding lengthField orZero
   field-is h = ap orZero (word-is h)
 
-  pub from-start : readFrom s 5 (wordAt s 0) (getD s 4 0) ≡ read s
-  unfolding read readFrom
-  from-start = go (ltb (length s) 6) refl
+  from-start : (v : Version) → readAs v s 5 (wordAt s 0) (getD s 4 0) ≡ readAs v s 5 (lengthField s) (getD s 4 0)
+  unfolding readAs
+  from-start v = go (ltb (length s) 6) refl
     where
-      go : (b : Bool) → ltb (length s) 6 ≡ b → readFrom s 5 (wordAt s 0) (getD s 4 0) ≡ readFrom s 5 (lengthField s) (getD s 4 0)
+      go : (b : Bool) → ltb (length s) 6 ≡ b → readAs v s 5 (wordAt s 0) (getD s 4 0) ≡ readAs v s 5 (lengthField s) (getD s 4 0)
       go true e =
           let h : length s < 6 = ltb-true (length s) 6 e in
-          rw (sym (too-short s (wordAt s 0) h), sym (too-short s (lengthField s) h))
+          rw (sym (too-short v s (wordAt s 0) h), sym (too-short v s (lengthField s) h))
       go false e =
           let h : 6 ≤ length s = ltb-false (length s) 6 e in
-          ap (λ (n : ℕ). readFrom s 5 n (getD s 4 0)) (sym (field-is (omega arith)))
+          ap (λ (n : ℕ). readAs v s 5 n (getD s 4 0)) (sym (field-is (omega arith)))
 
-pub read-all : (s : List ℕ) (at field version : ℕ) (before after : List ℕ) (r : Code.Answer) → at ≡ 5 → field ≡ wordAt s 0
-    → version ≡ getD s 4 0 → ReadFrom s at field version before after r → ReadAs s before after r
-read-all s at field version before after r a f v h =
-    let e : readFrom s at field version ≡ read s = rw (a, f, v) (from-start s (h .bytes)) in
+  whole-table : (brief : Bool) → readAs (versionOf brief) s 5 (wordAt s 0) (getD s 4 0) ≡ readOf brief s
+  unfolding read readBrief
+  whole-table false = from-start Read.full
+  whole-table true = from-start Read.brief
+
+read-all : (brief : Bool) (s : List ℕ) (at field version : ℕ) (before after : List ℕ) (r : Code.Answer) → at ≡ 5 → field ≡ wordAt s 0
+    → version ≡ getD s 4 0 → ReadFrom brief s at field version before after r → ReadBy brief s before after r
+read-all brief s at field version before after r a f v h =
+    let e : readAs (versionOf brief) s at field version ≡ readOf brief s = rw (a, f, v) (whole-table s (h .bytes) brief) in
+    let p = headOf brief in
     record {
       answer = h .answer ∙ ap outcome e;
-      placed = h .placed ∙ ap (leaves s at before) e ∙ ap (λ (k : ℕ). leaves s k before (read s)) a;
+      placed = h .placed ∙ ap (leavesBy p s at before) e ∙ ap (λ (k : ℕ). leavesBy p s k before (readOf brief s)) a;
     }
 
 -- as the reader moves: behind the length field, and behind the version
-pub read-through : (s before after : List ℕ) (field version : ℕ) (r : Code.Answer) → field ≡ wordAt s 0
-    → version ≡ byteAt s (past 0 4) → ReadFrom s (past (past 0 4) 1) field version before after r → ReadAs s before after r
+pub read-through : (brief : Bool) (s before after : List ℕ) (field version : ℕ) (r : Code.Answer) → field ≡ wordAt s 0
+    → version ≡ byteAt s (past 0 4) → ReadFrom brief s (past (past 0 4) 1) field version before after r → ReadBy brief s before after r
 unfolding past
-read-through s before after field version r f v h = read-all s _ field version before after r refl f v h
+read-through brief s before after field version r f v h = read-all brief s _ field version before after r refl f v h
 
--- the places of a table that reads
-pub read-places : (s : List ℕ) (P : Program) → read s ≡ Answer.given P → Places s P (programMarks s 5 nowhere)
-read-places s P e = let R = reads s P e in placed _ heads s (sized-is s _ (R .sized) .most) 5 P _ (R .program)
+-- the places of a table that reads, where there were none before
+reads-by : (brief : Bool) (s : List ℕ) (P : Program) → readOf brief s ≡ Answer.given P → ReadsAs (versionOf brief) s P
+reads-by false s P e = reads s P e
+reads-by true s P e = brief-reads s P e
+
+no-longer : (brief : Bool) → versionOf brief .most ≤ 16384
+no-longer false = omega arith
+no-longer true = omega arith
+
+places-by : (brief : Bool) (s before after : List ℕ) (P : Program) → after ≡ leavesBy (headOf brief) s 5 before (readOf brief s)
+    → before ≡ nowhere → readOf brief s ≡ Answer.given P → PlacesBy (headOf brief) s P after
+unfolding leavesBy
+places-by brief s before after P h o e =
+    let p = headOf brief in
+    let R = reads-by brief s P e in
+    let small : length s ≤ 16384 = omega (arith, no-longer brief, sized-is s _ (R .sized) .most) in
+    subst (PlacesBy p s P) (sym (h ∙ ap (leavesBy p s 5 before) e ∙ ap (programMarksBy p s 5) o))
+    (placed _ (heads-of brief) s small 5 P _ (R .program))
 
 pub left-places : (s before after : List ℕ) (P : Program) → after ≡ leaves s 5 before (read s) → before ≡ nowhere
     → read s ≡ Answer.given P → Places s P after
-unfolding leaves
-left-places s before after P h o e =
-    subst (Places s P) (sym (h ∙ ap (leaves s 5 before) e ∙ ap (programMarks s 5) o)) (read-places s P e)
+left-places s before after P h o e = places-by false s before after P h o e
+
+-- of version 2
+pub brief-places : (s before after : List ℕ) (P : Program) → after ≡ leavesBy Read.bare s 5 before (readBrief s) → before ≡ nowhere
+    → readBrief s ≡ Answer.given P → PlacesBy Read.bare s P after
+brief-places s before after P h o e = places-by true s before after P h o e

@@ -26,6 +26,7 @@ use Rattle.places.specs.Layout.{absent, functionIndex, spawnIndex, blockIndex, 
 use Rattle.places.specs.Marks.{short, put, nowhere, markFunction, markSpawn, markBlock, markHead, paired, lengthOf}
 use Rattle.places.specs.Places as Places
 use Rattle.places.specs.Places.{spawnIn, Entry, PlacesBy}
+use Rattle.table.specs.Versions.{headOf}
 use Rattle.table.specs.Skips.{skipOf}
 use Rattle.table.specs.declared.grammar.Skip.{Skip}
 use Rattle.table.specs.Marks.{onward, marked, Along, along, blockMarksBy, Many, sizes, functionMarksBy, programMarksBy}
@@ -304,13 +305,31 @@ heads =
           (omega arith, omega arith);
     }
 
+pub bare-heads : Heads Read.bare
+unfolding Read.bare Read.arguments Read.temporary
+bare-heads =
+    record {
+      keeps = Guarantees.bare;
+      begins = λ s at h k e. counted-ok _ _ s at (next-ok _ _ e .first) .0 .inside;
+      takes = λ s at h k e.
+          let x̄ = next-ok _ _ e in
+          let u = list-ends 8 0 15 s at (x̄ .first) in
+          let z : x̄ .between ≡ k = ok-offset (x̄ .then) in
+          (omega arith, omega arith);
+    }
+
+pub heads-of : (brief : Bool) → Heads (headOf brief)
+heads-of false = heads
+heads-of true = bare-heads
+
 -- the same, of passing over a head
-pub head-takes : (s : List ℕ) (at m : ℕ) (q : Skip) → q ≡ skipOf (Read.head s at) → q ≡ Skip.At m → (at ≤ m) × (m < at + 256)
+pub head-takes : (brief : Bool) (s : List ℕ) (at m : ℕ) (q : Skip) → q ≡ skipOf (headOf brief s at) → q ≡ Skip.At m
+    → (at ≤ m) × (m < at + 256)
 unfolding skipOf
-head-takes s at m q e a = go (Read.head s at) refl (sym e ∙ a)
+head-takes brief s at m q e a = go (headOf brief s at) refl (sym e ∙ a)
   where
-    go : (o : Parsed Head) → Read.head s at ≡ o → skipOf o ≡ Skip.At m → (at ≤ m) × (m < at + 256)
-    go (Parsed.ok h k) is f = let z : k ≡ m = cc in let t = heads .takes s at h k is in (omega arith, omega arith)
+    go : (o : Parsed Head) → headOf brief s at ≡ o → skipOf o ≡ Skip.At m → (at ≤ m) × (m < at + 256)
+    go (Parsed.ok h k) is f = let z : k ≡ m = cc in let t = heads-of brief .takes s at h k is in (omega arith, omega arith)
     go (Parsed.bad x) is f = absurd (let z : _≡_ {A = ℕ} 0 1 = cc in omega arith)
 
 -- two lengths in an entry: a block's own, and the one before it

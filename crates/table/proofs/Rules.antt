@@ -1,8 +1,8 @@
 -- The grammar's rules, passed over: which of them take the same bytes, and what stands behind a kind.
 use Prim.Native.Nat.{ℕ, zero, suc, _≤_, _<_}
 use native.Mathlib.Omega.{arith}
-use mathlib.Core.Path.{_≡_, refl, sym, ap, _∙_}
-use mathlib.Core.Bool.{true, false, cond}
+use mathlib.Core.Path.{_≡_, refl, sym, ap, _∙_, subst}
+use mathlib.Core.Bool.{Bool, true, false, cond}
 use mathlib.Core.List.{List}
 use lib.Dec.{eqb}
 use borrow.Author.Tests.{eq-eqb, ne-eqb}
@@ -12,6 +12,7 @@ use Rattle.model.specs.Syntax.{Atom, Expression}
 use Rattle.model.proofs.Reading.{byte-ok}
 use Rattle.code.specs.Bytes.{operands}
 use Rattle.table.specs.Skips.{skipOf, byteOf}
+use Rattle.table.specs.Versions.{headOf}
 use Rattle.table.specs.declared.grammar.Skip.{Skip}
 use Rattle.table.specs.declared.grammar.Found.{Found}
 use mathlib.Core.Logic.{_≢_}
@@ -215,6 +216,18 @@ name-then B s at k r q m e a h = skip-then _ _ (byte 0 255 s at) k r q m (e ∙ 
 pub name-bad : (s : List ℕ) (at : ℕ) (q : Skip) (x : ℕ) → q ≡ skipOf (many (byte 0 255) 1 s at) → q ≡ Skip.Bad x
     → skipOf (byte 0 255 s at) ≡ Skip.Bad x
 name-bad s at q x e a = name-bytes s at ∙ sym e ∙ a
+
+-- a head by its version
+pub bare-skip : (brief : Bool) (s : List ℕ) (at : ℕ) (r : Skip) → brief ≡ true → r ≡ skipOf (Read.counted 8 Read.temporary s at)
+    → r ≡ skipOf (headOf brief s at)
+unfolding Read.bare Read.arguments
+bare-skip brief s at r e h =
+    subst (λ (b : Bool). r ≡ skipOf (headOf b s at)) (sym e)
+    (skip-last _ _ (Read.counted 8 Read.temporary s at) _ r h (λ a m. skip-ok _ _ m))
+
+pub full-skip : (brief : Bool) (s : List ℕ) (at : ℕ) (r : Skip) → brief ≡ false → r ≡ skipOf (Read.head s at)
+    → r ≡ skipOf (headOf brief s at)
+full-skip brief s at r e h = subst (λ (b : Bool). r ≡ skipOf (headOf b s at)) (sym e) h
 
 pub ruleset kinds-of = (name-then, name-bad, atom-value, atom-variable, first-bad, one-atom, two-atoms, half-then, half-bad, skips)
 

@@ -1,3 +1,4 @@
+pub mod Versions
 pub mod Skips
 pub mod Marks
 pub mod Reading

@@ -33,9 +33,6 @@ unfoldable pub blockMarksBy : Parser Head → List ℕ → ℕ → ℕ → ℕ �
 blockMarksBy p s f b at σ =
     onward (p s at) (λ h e. along (markHead f b (σ .before) (e - at) (markBlock f b at (σ .places))) (e - at)) σ
 
-abbrev pub blockMarks : List ℕ → ℕ → ℕ → ℕ → Along → Along
-blockMarks s f b at σ = blockMarksBy Read.head s f b at σ
-
 -- how many blocks and spawn calls a function has, which stand before them
 pub record Many : Type 0 where
   pub blocks : ℕ
@@ -64,12 +61,6 @@ functionMarksBy p s f at places =
 unfoldable pub programMarksBy : Parser Head → List ℕ → ℕ → List ℕ → List ℕ
 programMarksBy p s at places =
     onward (byte 1 16 s at) (λ n m. marked (functionBy p) (functionMarksBy p s) n s m 0 places) places
-
-abbrev pub functionMarks : List ℕ → ℕ → ℕ → List ℕ → List ℕ
-functionMarks s f at places = functionMarksBy Read.head s f at places
-
-abbrev pub programMarks : List ℕ → ℕ → List ℕ → List ℕ
-programMarks s at places = programMarksBy Read.head s at places
 
 -- where all was passed over, the places are these
 unfoldable pub Kept : Skip → List ℕ → List ℕ → Type 0

@@ -2,6 +2,7 @@
 ghost use mathlib.Core.Path.{_≡_};
 ghost use Rattle.model.specs.Read as Read;
 ghost use Rattle.table.specs.Skips.{skipOf, byteOf, body};
+ghost use Rattle.table.specs.Versions.{headOf};
 
 // A byte and the offset behind it, or the place of the first bad byte.
 pub enum Found {
@@ -229,6 +230,17 @@ pub fn head(s: &[u8], at: usize) -> Skip
         Skip::Bad(p) => return Skip::Bad(p),
     };
     nesting(s, k)
+}
+
+// A head as the version has it: in version 2 its parameters alone.
+pub fn head_of(s: &[u8], at: usize, brief: bool) -> Skip
+    ensures { λ r. ⌜ r ≡ skipOf (headOf brief (now (s .entry)) at) ⌝ }
+{
+    if brief {
+        arguments(s, at, 8)
+    } else {
+        head(s, at)
+    }
 }
 
 // What follows a block's head: its statements, and its transfer.

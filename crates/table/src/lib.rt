@@ -8,7 +8,8 @@ ghost use mathlib.Core.Path.{_≡_};
 ghost use Rattle.model.specs.Read as Read;
 ghost use Rattle.code.specs.Bytes.{byteAt, past, wordAt};
 ghost use Rattle.places.specs.Marks.{nowhere};
-ghost use Rattle.table.specs.Reading.{ReadAs, ReadFrom};
+ghost use Rattle.table.specs.Versions.{versionOf};
+ghost use Rattle.table.specs.Reading.{ReadAs, BriefAs, ReadBy, ReadFrom};
 
 mod grammar;
 mod walk;
@@ -49,10 +50,11 @@ impl<'a> Reader<'a> {
     }
 
     // The functions from where the reader stands, by the length field and the version: 1 to 3, or given.
-    pub fn functions(self, field: u32, version: u8, places: &mut Places) -> Answer
-        ensures { λ r. ⌜ ReadFrom (now (self .entry .src)) (self .entry .at) field version (now (places .entry)) (now (places .exit)) r ⌝ }
+    pub fn functions(self, field: u32, version: u8, brief: bool, places: &mut Places) -> Answer
+        ensures { λ r. ⌜ ReadFrom brief (now (self .entry .src)) (self .entry .at) field version
+            (now (places .entry)) (now (places .exit)) r ⌝ }
     {
-        tested(self.src, self.at, field, version, places)
+        tested(self.src, self.at, field, version, brief, places)
     }
 }
 
@@ -67,22 +69,36 @@ pub fn length_field(s: &[u8]) -> u32
 pub fn read(s: &[u8], places: &mut Places) -> Answer
     ensures { λ r. ⌜ ReadAs (now (s .entry)) (now (places .entry)) (now (places .exit)) r ⌝ }
 {
+    read_by(s, false, places)
+}
+
+// The same of a table of version 2.
+pub fn read_brief(s: &[u8], places: &mut Places) -> Answer
+    ensures { λ r. ⌜ BriefAs (now (s .entry)) (now (places .entry)) (now (places .exit)) r ⌝ }
+{
+    read_by(s, true, places)
+}
+
+// By the version: whether the table is brief.
+fn read_by(s: &[u8], brief: bool, places: &mut Places) -> Answer
+    ensures { λ r. ⌜ ReadBy brief (now (s .entry)) (now (places .entry)) (now (places .exit)) r ⌝ }
+{
     let start = Reader::new(s);
     let field = start.number();
     let behind = start.moved(4);
     let version = behind.byte();
-    behind.moved(1).functions(field, version, places)
+    behind.moved(1).functions(field, version, brief, places)
 }
 
 // 1, then 2, then 3: by the length field, the version, and the functions from an offset on.
-fn tested(s: &[u8], at: usize, field: u32, version: u8, places: &mut Places) -> Answer
-    ensures { λ r. ⌜ ReadFrom (now (s .entry)) at field version (now (places .entry)) (now (places .exit)) r ⌝ }
+fn tested(s: &[u8], at: usize, field: u32, version: u8, brief: bool, places: &mut Places) -> Answer
+    ensures { λ r. ⌜ ReadFrom brief (now (s .entry)) at field version (now (places .entry)) (now (places .exit)) r ⌝ }
 {
-    if sized(s, field) {
-        if version != Table::VERSION {
+    if sized(s, field, brief) {
+        if version != number(brief) {
             return refused(Refusal::Plain(No::VERSION), places);
         }
-        match walk::program(s, at, places) {
+        match walk::program(s, at, brief, places) {
             grammar::Skip::At(end) => {
                 if end == s.len() {
                     Answer::Given
@@ -97,14 +113,31 @@ fn tested(s: &[u8], at: usize, field: u32, version: u8, places: &mut Places) -> 
     }
 }
 
+// The version's number, and how long its tables may be.
+fn number(brief: bool) -> u8
+    ensures { λ r. ⌜ r ≡ versionOf brief .number ⌝ }
+{
+    if brief { Table::BRIEF } else { Table::VERSION }
+}
+
+fn most(brief: bool) -> usize
+    ensures { λ r. ⌜ r ≡ versionOf brief .most ⌝ }
+{
+    if brief {
+        Table::BRIEF_MOST
+    } else {
+        Table::MOST
+    }
+}
+
 // Whether the size is within the limits, and the length field says it.
-fn sized(s: &[u8], field: u32) -> bool
-    ensures { λ r. ⌜ r ≡ Read.sized (now (s .entry)) field ⌝ }
+fn sized(s: &[u8], field: u32, brief: bool) -> bool
+    ensures { λ r. ⌜ r ≡ Read.sizedAs (versionOf brief) (now (s .entry)) field ⌝ }
 {
     if s.len() < 6 {
         return false;
     }
-    if 16384 < s.len() {
+    if most(brief) < s.len() {
         return false;
     }
     field as usize == s.len()

@@ -1,4 +1,5 @@
-// The one walk over a table, which also keeps where each function, spawn call and block begins.
+// The one walk over a table, which also keeps where each function, spawn call and block begins. The version is a parameter: whether
+// the table is brief, that is of version 2.
 use crate::grammar::Found;
 use crate::grammar::Skip;
 use crate::grammar::byte;
@@ -9,7 +10,8 @@ ghost use Rattle.model.specs.Read as Read;
 ghost use Rattle.places.specs.Layout as Layout;
 ghost use Rattle.places.specs.Marks.{markSpawn};
 ghost use Rattle.table.specs.Skips.{skipOf};
-ghost use Rattle.table.specs.Marks.{marked, along, blockMarks, functionMarks, programMarks, sizes, sizesOf, Kept};
+ghost use Rattle.table.specs.Versions.{headOf};
+ghost use Rattle.table.specs.Marks.{marked, along, blockMarksBy, functionMarksBy, programMarksBy, sizes, sizesOf, Kept};
 
 pub enum Sizes {
     Has(usize, usize, usize),
@@ -39,11 +41,12 @@ pub fn spawns(s: &[u8], at: usize, n: usize, f: usize, places: &mut Places) -> S
 }
 
 // The blocks of function f; how long the head before was is kept, since two lengths stand in an entry.
-pub fn blocks(s: &[u8], at: usize, n: usize, f: usize, places: &mut Places) -> Skip
+pub fn blocks(s: &[u8], at: usize, n: usize, f: usize, brief: bool, places: &mut Places) -> Skip
     requires { ⌜ (f < Layout.functions) × (n ≤ Layout.blocks) ⌝ }
-    ensures { λ r. ⌜ (r ≡ skipOf (Read.many Read.block n (now (s .entry)) at))
+    ensures { λ r. ⌜ (r ≡ skipOf (Read.many (Read.blockBy (headOf brief)) n (now (s .entry)) at))
         × Kept r (now (places .exit))
-        (marked Read.block (blockMarks (now (s .entry)) f) n (now (s .entry)) at 0 (along (now (places .entry)) 0) .places) ⌝ }
+        (marked (Read.blockBy (headOf brief)) (blockMarksBy (headOf brief) (now (s .entry)) f) n (now (s .entry)) at 0
+        (along (now (places .entry)) 0) .places) ⌝ }
 {
     let mut left = n;
     let mut k = at;
@@ -51,7 +54,7 @@ pub fn blocks(s: &[u8], at: usize, n: usize, f: usize, places: &mut Places) -> S
     let mut before = 0;
     while 0 < left {
         places::mark_block(places, f, j, k);
-        let code = match crate::grammar::head(s, k) {
+        let code = match crate::grammar::head_of(s, k, brief) {
             Skip::At(code) => code,
             Skip::Bad(p) => return Skip::Bad(p),
         };
@@ -91,32 +94,33 @@ pub fn numbers(s: &[u8], at: usize) -> Sizes
 }
 
 // Function f: its place, and those of its spawn calls and blocks.
-pub fn function(s: &[u8], at: usize, f: usize, places: &mut Places) -> Skip
+pub fn function(s: &[u8], at: usize, f: usize, brief: bool, places: &mut Places) -> Skip
     requires { ⌜ f < Layout.functions ⌝ }
-    ensures { λ r. ⌜ (r ≡ skipOf (Read.function (now (s .entry)) at))
-        × Kept r (now (places .exit)) (functionMarks (now (s .entry)) f at (now (places .entry))) ⌝ }
+    ensures { λ r. ⌜ (r ≡ skipOf (Read.functionBy (headOf brief) (now (s .entry)) at))
+        × Kept r (now (places .exit)) (functionMarksBy (headOf brief) (now (s .entry)) f at (now (places .entry))) ⌝ }
 {
     places::mark_function(places, f, at);
     match numbers(s, at) {
         Sizes::Has(b, c, k) => match spawns(s, k, c, f, places) {
-            Skip::At(m) => blocks(s, m, b, f, places),
+            Skip::At(m) => blocks(s, m, b, f, brief, places),
             Skip::Bad(p) => Skip::Bad(p),
         },
         Sizes::Lacks(p) => Skip::Bad(p),
     }
 }
 
-pub fn functions(s: &[u8], at: usize, n: usize, places: &mut Places) -> Skip
+pub fn functions(s: &[u8], at: usize, n: usize, brief: bool, places: &mut Places) -> Skip
     requires { ⌜ n ≤ Layout.functions ⌝ }
-    ensures { λ r. ⌜ (r ≡ skipOf (Read.many Read.function n (now (s .entry)) at))
+    ensures { λ r. ⌜ (r ≡ skipOf (Read.many (Read.functionBy (headOf brief)) n (now (s .entry)) at))
         × Kept r (now (places .exit))
-        (marked Read.function (functionMarks (now (s .entry))) n (now (s .entry)) at 0 (now (places .entry))) ⌝ }
+        (marked (Read.functionBy (headOf brief)) (functionMarksBy (headOf brief) (now (s .entry))) n (now (s .entry)) at 0
+        (now (places .entry))) ⌝ }
 {
     let mut left = n;
     let mut k = at;
     let mut f = 0;
     while 0 < left {
-        let next = match function(s, k, f, places) {
+        let next = match function(s, k, f, brief, places) {
             Skip::At(next) => next,
             Skip::Bad(p) => return Skip::Bad(p),
         };
@@ -127,12 +131,12 @@ pub fn functions(s: &[u8], at: usize, n: usize, places: &mut Places) -> Skip
     Skip::At(k)
 }
 
-pub fn program(s: &[u8], at: usize, places: &mut Places) -> Skip
-    ensures { λ r. ⌜ (r ≡ skipOf (Read.program (now (s .entry)) at))
-        × Kept r (now (places .exit)) (programMarks (now (s .entry)) at (now (places .entry))) ⌝ }
+pub fn program(s: &[u8], at: usize, brief: bool, places: &mut Places) -> Skip
+    ensures { λ r. ⌜ (r ≡ skipOf (Read.programBy (headOf brief) (now (s .entry)) at))
+        × Kept r (now (places .exit)) (programMarksBy (headOf brief) (now (s .entry)) at (now (places .entry))) ⌝ }
 {
     match byte(s, at, 1, 16) {
-        Found::Byte(n, k) => functions(s, k, n, places),
+        Found::Byte(n, k) => functions(s, k, n, brief, places),
         Found::Wrong(p) => Skip::Bad(p),
     }
 }

@@ -24,11 +24,11 @@ use Rattle.targets.specs.Targets.{Within, Targets, Callees, Spawns}
 -- functions by number
 module _ (s places : List ℕ) (g : ℕ) {r : Place} (find : FindsFunction places g r) (P : Program) (I : Places s P places) where
   pub no-function : r ≡ Nowhere → getElem? P g ≡ none
-  no-function e = subst (λ (q : Place). Found Read.function s q (getElem? P g)) e (find s P I)
+  no-function e = subst (λ (q : Place). Found Read.function s q (getElem? P g)) e (find s P Read.head I)
 
   pub function-at : {at : ℕ} → r ≡ At at → (F : Function) × (getElem? P g ≡ some F) × (F .signature ≡ signatureAt s at)
   function-at {at} e =
-      let (F, there, reads) = subst (λ (q : Place). Found Read.function s q (getElem? P g)) e (find s P I) in
+      let (F, there, reads) = subst (λ (q : Place). Found Read.function s q (getElem? P g)) e (find s P Read.head I) in
       (F, there, signature-is s at F (reads .behind) (I .short) (reads .is))
 
 -- blocks by number
@@ -38,7 +38,7 @@ module _ (s places : List ℕ) (f b : ℕ) {r : Place} (find : FindsBlock places
   unfolding blockIn
   block-found q e =
       subst (λ (o : Option Function). Found Read.block s q (blockIn o b)) (W .there)
-      (subst (λ (q : Place). Found Read.block s q (blockIn (getElem? P f) b)) e (find s P (W .index)))
+      (subst (λ (q : Place). Found Read.block s q (blockIn (getElem? P f) b)) e (find s P Read.head (W .index)))
 
   pub no-block : r ≡ Nowhere → getElem? (F .blocks) b ≡ none
   no-block e = block-found Nowhere e
@@ -55,7 +55,7 @@ module _ (s places : List ℕ) (f π : ℕ) {r : Place} (find : FindsSpawn place
   unfolding spawnIn
   spawn-found q e =
       subst (λ (o : Option Function). Found Read.spawnCall s q (spawnIn o π)) (W .there)
-      (subst (λ (q : Place). Found Read.spawnCall s q (spawnIn (getElem? P f) π)) e (find s P (W .index)))
+      (subst (λ (q : Place). Found Read.spawnCall s q (spawnIn (getElem? P f) π)) e (find s P Read.head (W .index)))
 
   pub no-spawn : r ≡ Nowhere → getElem? (F .spawns) π ≡ none
   no-spawn e = spawn-found Nowhere e

@@ -96,7 +96,7 @@ module _ (P : Program) (C : Closed P) (L : Limits P) (f : ℕ) (F : Function) (e
         countsOf b c F ++
         (concat (map (eachSpawn functions F) (keptSpawns F)) ++ concat (map (eachBlock functions blocks spawns F) (keptBlocks F)))
         ≡ Write.function (tidyFunction (keptFunctions P) F)
-    unfolding Write.function tidyFunction
+    unfolding Write.functionBy tidyFunction
     function-written =
         let nb : length (map (Renamed.block tidyNames) (picked (F .blocks) (keptBlocks F))) ≡ b =
         length-map (picked (F .blocks) (keptBlocks F)) (Renamed.block tidyNames)

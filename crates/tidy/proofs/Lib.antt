@@ -1,4 +1,3 @@
-pub mod Left
 pub mod Putting
 pub mod Renaming
 pub mod Functions

@@ -22,7 +22,7 @@ use Rattle.numbering.proofs.Kept.{of-some, kept-functions}
 use Rattle.kept.specs.Kept.{nothing, Lists, KeepsBlocks, KeepsSpawns}
 use Rattle.kept.proofs.Arrays.{lists-at, lists-from, lists-past}
 use Rattle.tidy.specs.Tables.{PutsIn, PutsEach, countsOf, eachSpawn, eachBlock, PutsFunction, PutsProgram}
-use Rattle.tidy.proofs.Left.{Left, all-left, less-left, none-left}
+use Rattle.puts.proofs.Left.{Left, all-left, less-left, none-left}
 use Rattle.tidy.proofs.Functions.{picked-written, function-written}
 
 -- what is left to be put of a list, from index i on
@@ -81,7 +81,7 @@ eachFunction P f = of (functionBytes P) (getElem? P f)
 -- the number of functions, and each of them: the tidy program
 program-written : (P : Program) {n : ℕ} → Closed P → Limits P → n ≡ length (keptFunctions P) →
     (n ∷ []) ++ concat (map (eachFunction P) (keptFunctions P)) ≡ Write.program (tidied P)
-unfolding functionBytes Write.program Write.counted tidied
+unfolding functionBytes Write.programBy Write.counted tidied
 program-written P C L e =
     let fs : List ℕ = keptFunctions P in
     let m : length (map (tidyFunction fs) (picked P fs)) ≡ length fs =

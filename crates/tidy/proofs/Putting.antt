@@ -1,33 +1,15 @@
--- What the writers of names and of copied bytes put: one law for each place where one of them returns.
-use Prim.Native.Nat.{ℕ, _-_, _/_, _%_, _≤_, _<_}
+-- What the writers of names put: one law for each place where one of them returns.
+use Prim.Native.Nat.{ℕ, _-_, _≤_, _<_}
 use mathlib.Core.Path.{_≡_}
 use mathlib.Core.List.{List, [], _∷_, map}
-use lib.ListN.{length, take, drop}
-use borrow.Author.Tests.{lt-ltb, le-ltb}
-use Rattle.model.specs.Write as Write
 use Rattle.code.specs.Bytes.{byteAt, past}
 use Rattle.code.specs.Code.{run, expressionEnd, spawnEnd}
 use Rattle.code.proofs.Ends.{run-goes, run-none}
-use Rattle.puts.specs.Puts.{Puts}
-use Rattle.puts.proofs.Laws.{none, then, same}
+use Rattle.puts.specs.Puts.{Puts, stretch}
+use Rattle.puts.proofs.Laws.{then, same}
+use Rattle.puts.proofs.Left.{Left, less-left, none-left}
 use Rattle.kept.specs.Kept.{numberIn}
-use Rattle.tidy.proofs.Left.{Left, less-left, none-left}
-use Rattle.tidy.specs.Writes.{stretch, renamedName, renamedTwo, renamedApplied, renamedIf, renamedCall}
-
--- a stretch that is none, and one that is
-module _ (s : List ℕ) (from to : ℕ) {d : List ℕ} {k : ℕ} where
-  pub turned : to < from → Puts d k (stretch s from to) k d
-  unfolding stretch
-  turned h = rw (lt-ltb to from h) none
-
-  pub outside : from ≤ to → length s < to → Puts d k (stretch s from to) k d
-  unfolding stretch
-  outside g h = rw (le-ltb to from g, lt-ltb (length s) to h) none
-
-  pub inside : {r : ℕ} {d′ : List ℕ} → from ≤ to → to ≤ length s → Puts d k (take (to - from) (drop from s)) r d′
-      → Puts d k (stretch s from to) r d′
-  unfolding stretch
-  inside g h p = rw (le-ltb to from g, le-ltb (length s) to h) p
+use Rattle.tidy.specs.Writes.{renamedName, renamedTwo, renamedApplied, renamedIf, renamedCall}
 
 -- names: one, two, one with the arguments behind it
 module _ (s list : List ℕ) (at : ℕ) {d : List ℕ} {k : ℕ} where
@@ -64,13 +46,3 @@ module _ (d : List ℕ) (k : ℕ) (xs list s : List ℕ) (next left : ℕ) {m : 
 
   pub names-end : left ≤ 0 → Puts d k xs m d′
   names-end h = none-left (rw (run-none s next left h) at l)
-
--- numbers of two and of four bytes
-module _ (n : ℕ) {d : List ℕ} {k m r : ℕ} {d′ d″ : List ℕ} where
-  pub half-put : Puts d k (n / 256 ∷ []) m d′ → Puts d′ m (n % 256 ∷ []) r d″ → Puts d k (Write.half n) r d″
-  unfolding Write.half
-  half-put p q = then p q
-
-  pub word-put : Puts d k (Write.half (n / 65536)) m d′ → Puts d′ m (Write.half (n % 65536)) r d″ → Puts d k (Write.word n) r d″
-  unfolding Write.word
-  word-put p q = then p q

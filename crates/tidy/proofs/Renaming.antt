@@ -4,10 +4,7 @@ use mathlib.Core.Path.{_≡_, refl, sym, ap, _∙_}
 use mathlib.Core.List.{List, [], _∷_, _++_, map, append-assoc}
 use native.Mathlib.Nat.{min-eq-left}
 use native.Mathlib.Omega.{arith}
-use lib.ListN.{length, length-append, length-drop, length-map}
-use lib.Seq.{take-append-seam}
-use borrow.Author.Tests.{le-ltb}
-use Rattle.model.specs.Lists.{concat}
+use lib.ListN.{length, length-map}
 use Rattle.model.specs.Limits.{InStatement, InTransfer}
 use Rattle.model.specs.Syntax.{Transfer, Head, Block, SpawnCall, Function}
 use Rattle.model.specs.Read as Read
@@ -26,27 +23,14 @@ use Rattle.code.proofs.Offsets.{past-in}
 use Rattle.code.proofs.Decoding.{In, Decodes, decodes-list, decodes-arguments, decodes-half, decodes-expression, decodes-head, decodes-code}
 use Rattle.numbering.specs.Renamed as Renamed
 use Rattle.numbering.specs.Renamed.{Names}
-use Rattle.puts.specs.Puts.{Puts}
+use Rattle.puts.specs.Puts.{Puts, stretch}
 use Rattle.puts.proofs.Laws.{then, same}
+use Rattle.model.proofs.Writing.{bytes-are}
+use Rattle.puts.proofs.Parts.{stretch-is}
 use Rattle.transfers.proofs.Blocks.{transfer-inside}
 use Rattle.kept.specs.Kept.{numberIn}
-use Rattle.tidy.specs.Writes.{stretch, renamedTwo, renamedApplied, renamedIf, renamedCall, renamedKind, namesBy}
+use Rattle.tidy.specs.Writes.{renamedTwo, renamedApplied, renamedIf, renamedCall, renamedKind, namesBy}
 use Rattle.tidy.specs.Writes.{PutsTransfer, PutsBlock}
-
--- what stands from an offset of s on ends within s
-between-inside : (s : List ℕ) (at k : ℕ) (xs : List ℕ) → at ≤ length s → Between s at k xs → k ≤ length s
-between-inside s at k xs h b =
-    omega
-    (arith, b .end, length-drop at s, length-drop (at + length xs) s, ap length (b .stand .is) ∙ length-append xs _)
-
--- and is the stretch between the two
-pub stretch-is : {s : List ℕ} {at k : ℕ} {xs : List ℕ} → In s at → Between s at k xs → stretch s at k ≡ xs
-unfolding stretch
-stretch-is {s} {at} {k} {xs} i b =
-    let n : k - at ≡ length xs = omega (arith, b .end) in
-    rw
-    (le-ltb k at (omega (arith, b .end)), le-ltb (length s) k (between-inside s at k xs (i .within) b), n, b .stand .is)
-    (take-append-seam xs _)
 
 -- a byte, and what stands behind it
 pub record Step (s : List ℕ) (at k x : ℕ) (ys : List ℕ) : Type 0 where
@@ -87,7 +71,7 @@ module _ {A : Type 0} {p : Parser A} {w : A → List ℕ} {K : A → Type 0} {h 
 
   -- the same, where nothing stands behind it
   last : {k : ℕ} → In s at → K a → Between s at k (w a) → stretch s at (e s at) ≡ w a
-  last {k} i g b = rw (← d .end s at a k (forth l s at a k g b) i) (stretch-is i b)
+  last {k} i g b = rw (← d .end s at a k (forth l s at a k g b) i) (stretch-is (i .within) b)
 
 -- a transfer, by its kind
 module _ (N : Names) (s : List ℕ) where
@@ -103,13 +87,13 @@ module _ (N : Names) (s : List ℕ) where
       let p = part law-expression decodes-expression c (k .on) (h, g) (k .rest) in
       let f = step (p .on) (p .rest) in
       let t = step (f .on) (f .rest) in
-      rw (k .is, stretch-is (k .on) (p .here), f .is, t .is)
+      rw (k .is, stretch-is (k .on .within) (p .here), f .is, t .is)
   kinds at (Transfer.call f x̄ b) e i (h, g) z =
       let k = step i z in
       let n = step (k .on) (k .rest) in
       let p = part law-arguments decodes-arguments x̄ (n .on) h (n .rest) in
       let t = step (p .on) (p .rest) in
-      rw (k .is, n .is, stretch-is (n .on) (p .here), t .is)
+      rw (k .is, n .is, stretch-is (n .on .within) (p .here), t .is)
   kinds at (Transfer.return x̄) e i (h, g) z =
       let k = step i z in
       rw (k .is, last (law-few 4) (decodes-list 4 0 15 (omega arith)) x̄ (k .on) h (k .rest))
@@ -166,12 +150,7 @@ module _ (s functions blocks spawns : List ℕ) (at kind first : ℕ) {d : List 
       let g : kind ≡ suc (suc (suc (suc (suc (kind - 5))))) = omega arith in
       kind-put (rw g q)
 
--- bytes that stand one after another: each is written as itself, and read back by the code
-bytes-are : (xs : List ℕ) → concat (map Write.byte xs) ≡ xs
-unfolding concat
-bytes-are [] = refl
-bytes-are (x ∷ xs) = ap {B = List ℕ} (λ l. x ∷ l) (bytes-are xs)
-
+-- bytes that stand one after another are read back by the code
 run-is : (s : List ℕ) (at k : ℕ) (xs : List ℕ) → In s at → Between s at k xs → run s at (length xs) ≡ xs
 unfolding run
 run-is s at k [] i b = refl
@@ -192,7 +171,7 @@ module _ (N : Names) (s : List ℕ) (at : ℕ) where
       let n = step (q .on) (q .rest) in
       let c : min (byteAt s (past (listEnd s at) 2)) 8 ≡ length (H .nesting) = min-eq-left (omega (arith, n .is, h .nesting)) ∙ n .is in
       rw (
-        stretch-is i (between-append (p .here) (between-append (q .here) (n .here))),
+        stretch-is (i .within) (between-append (p .here) (between-append (q .here) (n .here))),
         c,
         run-is s _ k (H .nesting) (n .on) (rw (← bytes-are (H .nesting)) (n .rest)),
       )
@@ -209,7 +188,7 @@ module _ (N : Names) (s : List ℕ) (at : ℕ) where
         ≡ Write.block (Renamed.block N B)
 
   block-parts : (B : Block) (z : ℕ) → In s at → HeldBlock B → Between s at z (Write.block B) → Parts B z
-  unfolding Write.block Renamed.block
+  unfolding Write.blockBy Renamed.block
   block-parts B z i (h, g) b =
       let p = part law-head decodes-head (B .head) i (h .head, g .nesting) b in
       let code = each-both InStatement (λ s. HoldsExpression (s .source)) (B .code) (h .code) (g .code) in
@@ -218,14 +197,14 @@ module _ (N : Names) (s : List ℕ) (at : ℕ) where
       record {
         transfer = forth law-transfer s _ (B .transfer) z (h .transfer, g .transfer) (c .rest);
         whole =
-            rw (stretch-is (p .on) (c .here))
+            rw (stretch-is (p .on .within) (c .here))
             (sym (append-assoc (stretch s at (past (nestingAt s at) 1)) _ t)
             ∙ ap (λ (l : List ℕ). l ++ t) (head-put _ (B .head) i (h .head, g .nesting) (p .here)));
       }
 
   -- what reads as a block begins within s
   block-inside : (B : Block) (z : ℕ) → Between s at z (Write.block B) → at < length s
-  unfolding Write.block Write.head Write.arguments Write.counted
+  unfolding Write.blockBy Write.head Write.arguments Write.counted
   block-inside B z b = stands-inside s at _ _ (b .stand)
 
   -- the block is put, part by part
@@ -254,7 +233,7 @@ spawn-put N s at S k short y =
 
 pub signature-put : (s : List ℕ) (at : ℕ) (F : Function) (k : ℕ) → length s < 2 ^ 64 → Read.function s at ≡ Parsed.ok F k
     → stretch s at (past at 2) ≡ F .signature .parameters ∷ F .signature .returns ∷ []
-unfolding Write.function
+unfolding Write.functionBy
 signature-put s at F k short y =
     let b = back law-function s at F k y in
     let h : at < length s = stands-inside s at _ _ (b .stand) in
@@ -263,4 +242,4 @@ signature-put s at F k short y =
     let m = step (n .on) (n .rest) in
     let e : past (past at 1) 1 ≡ at + 2 = omega (arith, n .here .end, m .here .end) in
     let two : past (past at 1) 1 ≡ past at 2 = e ∙ sym (past-in s at 2 short (omega (arith, m .on .within))) in
-    rw (← two) (stretch-is i (between-append (n .here) (m .here)))
+    rw (← two) (stretch-is (i .within) (between-append (n .here) (m .here)))

@@ -1,13 +1,11 @@
 -- The table: whether it has room, its parts, and the answer: the check's own refusal, 23, or the length.
-use Prim.Native.Nat.{ℕ, _+_, _%_, _^_, _≤_, _<_}
-use mathlib.Core.Path.{_≡_, refl, sym, _∙_, ap, ap₂}
+use Prim.Native.Nat.{ℕ, _%_, _^_, _≤_, _<_}
+use mathlib.Core.Path.{_≡_, refl, sym, _∙_, ap}
 use mathlib.Core.Bool.{Bool, true, false}
-use mathlib.Core.List.{List, [], _∷_, _++_, append-assoc}
-use native.Mathlib.Nat.{zero-add}
+use mathlib.Core.List.{List, [], _∷_}
 use native.Mathlib.Omega.{arith}
 use lib.Dec.{leb}
-use lib.ListN.{length, take, drop}
-use lib.Seq.{sets, sets-eq, length-sets, length-take-le, drop-at}
+use lib.ListN.{length}
 use Rattle.model.specs.Numbers as No
 use Rattle.model.specs.Answers.{Answer}
 use Rattle.model.specs.Calls.{read, check}
@@ -24,7 +22,7 @@ use Rattle.answers.specs.declared.Refusal as Why
 use Rattle.answers.specs.declared.Refusal.the-variants.{Plain}
 use Rattle.answers.specs.Answers.{answerOf}
 use Rattle.puts.specs.Puts.{Puts}
-use Rattle.puts.proofs.Laws.{then}
+use Rattle.puts.proofs.Tables.{table-written}
 use Rattle.places.specs.Marks.{nowhere}
 use Rattle.places.specs.Places.{Places}
 use Rattle.transfers.specs.Transfers as Transfers
@@ -38,37 +36,9 @@ use Rattle.numbering.proofs.Answers.{tidy-accepted, tidy-refused, put-fits, put
 use Rattle.numbering.proofs.Closed.{closed}
 use Rattle.numbering.proofs.Shorter.{tidied-shorter}
 use Rattle.kept.specs.Kept.{nothing, Lists, KeepsFunctions}
-use Rattle.tidy.specs.declared.Written.the-variants as written
+use Rattle.answers.specs.declared.Written.the-variants as written
 use Rattle.tidy.specs.Writes.{Writes}
 use Rattle.tidy.specs.Tables.{PutsProgram, Fits, PutsTable}
-
--- what stands before the functions: the length and the version
-abbrev head : ℕ → List ℕ
-head n = Write.word n ++ (1 ∷ [])
-
-head-length : (n : ℕ) → length (head n) ≡ 5
-unfolding Write.word Write.half
-head-length n = refl
-
--- a table, by its length
-table-is : (Q : Program) (n : ℕ) → n ≡ length (Write.table Q) → head n ++ Write.program Q ≡ Write.table Q
-unfolding Write.table
-table-is Q n e =
-    let z : n ≡ length (Write.program Q) + 5 = omega (arith, table-length Q) in
-    rw z (append-assoc (Write.word (length (Write.program Q) + 5)) (1 ∷ []) (Write.program Q))
-
--- bytes put behind room for others, and the others put before them
-before-put : (d hs xs : List ℕ) (n : ℕ) → length hs ≡ n → n + length xs ≤ length d →
-    sets (sets d n xs) 0 hs ≡ (hs ++ xs) ++ drop (n + length xs) d
-before-put d hs xs n e h =
-    let first : sets d n xs ≡ (take n d ++ xs) ++ drop (n + length xs) d = sets-eq xs d n h in
-    let l : length (take n d) ≡ n = length-take-le n d (omega arith) in
-    let second = sets-eq hs (sets d n xs) 0 (omega (arith, length-sets d n xs)) in
-    let behind : drop (0 + length hs) (sets d n xs) ≡ xs ++ drop (n + length xs) d =
-    ap (λ (k : ℕ). drop k (sets d n xs)) (zero-add (length hs) ∙ e)
-    ∙ ap (drop n) (first ∙ append-assoc (take n d) xs (drop (n + length xs) d))
-    ∙ drop-at (take n d) (xs ++ drop (n + length xs) d) n l in
-    second ∙ ap (λ (r : List ℕ). hs ++ r) behind ∙ sym (append-assoc hs xs (drop (n + length xs) d))
 
 -- the tidy table is no longer than the table, which is short
 tidy-short : (s : List ℕ) (P : Program) → read s ≡ Answer.given P →
@@ -98,21 +68,9 @@ module _ (s places transfers functions : List ℕ) (n : ℕ) where
   pub table-put : {d d₁ d₂ d₃ : List ℕ} {end k m : ℕ} → PutsProgram s places transfers functions n d 5 end d₁
       → Puts d₁ 0 (Write.word (end % 4294967296)) k d₂ → Puts d₂ k (1 ∷ []) m d₃
       → PutsTable s places transfers functions n d (end % 4294967296) d₃
-  table-put {d} {d₁} {d₂} {d₃} {end} u p q =
+  table-put u p q =
       record {
-        is = λ P r w v C l fit short.
-            let Q : Program = tidied P in
-            let body = u .is P w v C l .is (omega arith) short in
-            let z : end % 4294967296 ≡ length (Write.table Q) = omega (arith, body .0, table-length Q, tidy-short s P r .1) in
-            let same : length d₁ ≡ length d = ap length (body .1) ∙ length-sets d 5 (Write.program Q) in
-            let top = then p q .is (omega arith) (omega (arith, same)) in (
-              z,
-              top .1
-                  ∙ ap (λ (x : List ℕ). sets x 0 (head (end % 4294967296))) (body .1)
-                  ∙ before-put d (head (end % 4294967296)) (Write.program Q) 5 (head-length (end % 4294967296))
-                  (omega (arith, table-length Q))
-                  ∙ ap₂ {C = List ℕ} _++_ (table-is Q (end % 4294967296) z) (ap (λ (k : ℕ). drop k d) (sym (table-length Q))),
-            );
+        is = λ P r w v C l fit short. table-written (tidied P) (u .is P w v C l) p q (tidy-short s P r .1) fit short;
       }
 
 -- an accepted table: its program, with its places and the list of its kept functions
@@ -140,7 +98,7 @@ module _ (s before places : List ℕ) (r : Code.Answer) (c : CheckedAs s before 
         let p = left-places s before places P (c .placed) none reads in
         let C = closed P wf in
         let short : length s ≤ 65535 = omega (arith, sized-is s _ (Guarantees.reads s P reads .sized) .most) in
-        let v = f P p short z in
+        let v = f P _ p short z in
         record { program = P; reads = reads; accepted = h; placed = p; transferred = v; closed = C; lists = k P p v C d }
 
     abbrev table : List ℕ

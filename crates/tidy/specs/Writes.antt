@@ -1,34 +1,26 @@
 -- What the writers of a tidy table put into the output: the definition's bytes, under the numbers that the lists have.
-use Prim.Native.Nat.{ℕ, zero, suc, _-_, _^_, _<_}
+use Prim.Native.Nat.{ℕ, zero, suc, _^_, _<_}
 use mathlib.Core.Path.{_≡_}
-use mathlib.Core.Bool.{cond}
 use mathlib.Core.List.{List, [], _∷_, _++_}
-use lib.Dec.{ltb}
-use lib.ListN.{length, take, drop}
-use Rattle.model.specs.Answers.{Answer}
+use lib.ListN.{length}
 use Rattle.model.specs.Syntax.{Transfer, Block}
 use Rattle.model.specs.Read as Read
 use Rattle.model.specs.Read.{Parsed}
 use Rattle.model.specs.Write as Write
-use Rattle.answers.specs.Answers.{refusalOf}
+use Rattle.answers.specs.Answers.{writtenOf}
 use Rattle.code.specs.Bytes.{byteAt, past}
 use Rattle.code.specs.Code.{listEnd, expressionEnd, spawnEnd}
-use Rattle.puts.specs.Puts.{Puts}
+use Rattle.puts.specs.Puts.{Puts, stretch}
 use Rattle.numbering.specs.Renamed as Renamed
 use Rattle.numbering.specs.Renamed.{Names}
 use Rattle.numbering.specs.Tidy.{Wrote}
 use Rattle.kept.specs.Kept.{numberIn}
-use Rattle.tidy.specs.declared.Written.{Written}
-use Rattle.tidy.specs.declared.Written.the-variants as written
+use Rattle.answers.specs.declared.Written.{Written}
 
 -- the new numbers that three lists have
 abbrev pub namesBy : List ℕ → List ℕ → List ℕ → Names
 namesBy functions blocks spawns =
     record { function = numberIn functions; block = numberIn blocks; spawn = numberIn spawns }
-
--- the bytes of s between two offsets; none where these are not two offsets of s in their order
-unfoldable pub stretch : List ℕ → ℕ → ℕ → List ℕ
-stretch s from to = cond (ltb to from) [] (cond (ltb (length s) to) [] (take (to - from) (drop from s)))
 
 -- the name at an offset under a new number; two names; a name, and the argument list behind it
 abbrev pub renamedName : (ℕ → ℕ) → List ℕ → ℕ → List ℕ
@@ -66,11 +58,6 @@ abbrev pub PutsBlock : List ℕ → ℕ → Names → List ℕ → ℕ → ℕ �
 PutsBlock s at N out k r out′ =
     (B : Block) (e : ℕ) → Read.block s at ≡ Parsed.ok B e → length s < 2 ^ 64 →
     Puts out k (Write.block (Renamed.block N B)) r out′
-
--- the answer that each case of the call's enum is, with document 01's number and place
-abbrev pub writtenOf : Written → Answer ℕ
-writtenOf (written.Bytes n) = Answer.given n
-writtenOf (written.Refused why) = Answer.refused (refusalOf why)
 
 -- an answer, and the output afterwards
 pub record Writes (w : Wrote) (r : Written) (out′ : List ℕ) : Type 0 where

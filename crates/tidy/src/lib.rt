@@ -3,39 +3,20 @@
 use answers::Answer;
 use answers::No;
 use answers::Refusal;
+use answers::Written;
 use code::Table;
 use places::Place;
 use places::Places;
 use transfers::Transfers;
 ghost use mathlib.Core.List.{map};
-ghost use Rattle.model.specs.Write as Write;
 ghost use Rattle.code.specs.Code.{run};
 ghost use Rattle.puts.specs.Puts.{Puts};
 ghost use Rattle.numbering.specs.Tidy as Model;
 ghost use Rattle.kept.specs.Kept.{numberIn};
-ghost use Rattle.tidy.specs.Writes.{stretch, renamedName, renamedTwo, renamedApplied, renamedIf, renamedCall};
+ghost use Rattle.tidy.specs.Writes.{renamedName, renamedTwo, renamedApplied, renamedIf, renamedCall};
 ghost use Rattle.tidy.specs.Writes.{namesBy, PutsTransfer, PutsBlock, Writes};
 ghost use Rattle.tidy.specs.Tables.{PutsIn, PutsEach, countsOf, spawnOf, eachSpawn, blockOf, eachBlock, PutsFunction, PutsProgram};
 ghost use Rattle.tidy.specs.Tables.{Fits, PutsTable};
-
-// The answer: the length of the tidy table, or a refusal.
-pub enum Written {
-    Bytes(u32),
-    Refused(Refusal),
-}
-
-// The bytes of s between two offsets.
-fn copy(s: &[u8], from: usize, to: usize, out: &mut [u8], k: usize) -> usize
-    ensures { λ r. ⌜ Puts (now (out .entry)) k (stretch (now (s .entry)) from to) r (now (out .exit)) ⌝ }
-{
-    if to < from {
-        return k;
-    }
-    if s.len() < to {
-        return k;
-    }
-    puts::bytes(out, k, &s[from..to])
-}
 
 // The new number of the name at an offset.
 fn put_name(s: &[u8], at: usize, list: &[u8], out: &mut [u8], k: usize) -> usize
@@ -75,7 +56,7 @@ fn put_applied(s: &[u8], at: usize, list: &[u8], out: &mut [u8], k: usize) -> us
         (renamedApplied (numberIn (now (list .entry))) (now (s .entry)) at) r (now (out .exit)) ⌝ }
 {
     let m = put_name(s, at, list, out, k);
-    copy(s, code::after(at, 1), code::spawn_end(s, at), out, m)
+    puts::stretch(out, m, s, code::after(at, 1), code::spawn_end(s, at))
 }
 
 // What follows the kind of an if: the expression, and two blocks.
@@ -83,7 +64,7 @@ fn put_if(s: &[u8], at: usize, blocks: &[u8], out: &mut [u8], k: usize) -> usize
     ensures { λ r. ⌜ Puts (now (out .entry)) k (renamedIf (numberIn (now (blocks .entry))) (now (s .entry)) at) r (now (out .exit)) ⌝ }
 {
     let end = code::expression_end(s, at);
-    let m = copy(s, at, end, out, k);
+    let m = puts::stretch(out, k, s, at, end);
     put_two(s, end, blocks, out, m)
 }
 
@@ -125,7 +106,7 @@ fn put_transfer(
         0 => put_applied(s, first, blocks, out, m),
         1 => put_if(s, first, blocks, out, m),
         2 => put_call(s, first, functions, blocks, out, m),
-        3 => copy(s, first, code::list_end(s, first), out, m),
+        3 => puts::stretch(out, m, s, first, code::list_end(s, first)),
         4 => put_spork(s, first, blocks, spawns, out, m),
         _ => put_two(s, first, blocks, out, m),
     }
@@ -146,9 +127,9 @@ fn put_block(
 {
     let h = code::head(s, at);
     let transfer = transfers::behind(s, h.behind);
-    let m = copy(s, at, h.nesting, out, k);
+    let m = puts::stretch(out, k, s, at, h.nesting);
     let n = put_names(s, h.nesting, h.depth, spawns, out, m);
-    let l = copy(s, h.behind, transfer, out, n);
+    let l = puts::stretch(out, n, s, h.behind, transfer);
     put_transfer(s, transfer, functions, blocks, spawns, out, l)
 }
 
@@ -167,7 +148,7 @@ fn put_counts(
     match places::function(places, f) {
         Place::Nowhere => k,
         Place::At(at) => {
-            let m = copy(s, at, code::after(at, 2), out, k);
+            let m = puts::stretch(out, k, s, at, code::after(at, 2));
             let n = puts::byte(out, m, blocks);
             puts::byte(out, n, spawns)
         }
@@ -332,21 +313,6 @@ fn put_functions(
     m
 }
 
-// A number of two bytes, and of four.
-fn put_half(out: &mut [u8], k: usize, n: u16) -> usize
-    ensures { λ r. ⌜ Puts (now (out .entry)) k (Write.half n) r (now (out .exit)) ⌝ }
-{
-    let m = puts::byte(out, k, (n / 256) as u8);
-    puts::byte(out, m, (n % 256) as u8)
-}
-
-fn put_word(out: &mut [u8], k: usize, n: u32) -> usize
-    ensures { λ r. ⌜ Puts (now (out .entry)) k (Write.word n) r (now (out .exit)) ⌝ }
-{
-    let m = put_half(out, k, (n / 65536) as u16);
-    put_half(out, m, (n % 65536) as u16)
-}
-
 // Whether the tidy table has room in so many bytes: it is never longer than the table, and else its functions are put where there is
 // room for one byte, which tells where they end.
 fn fits(
@@ -398,7 +364,7 @@ fn put_table(
         Table::FUNCTIONS_AT,
     );
     let length = (end % 4294967296) as u32;
-    let k = put_word(out, 0, length);
+    let k = puts::word(out, 0, length);
     puts::byte(out, k, Table::VERSION);
     length
 }

@@ -5,9 +5,9 @@ use mathlib.Core.Option.{Option, none, some}
 use mathlib.Core.List.{List}
 use native.Mathlib.Omega.{arith}
 use lib.ListN.{length}
-use Rattle.model.specs.Syntax.{Transfer, Block, Function}
+use Rattle.model.specs.Syntax.{Transfer, Head, Block, Function}
 use Rattle.model.specs.Read as Read
-use Rattle.model.specs.Read.{Parsed, byte, counted}
+use Rattle.model.specs.Read.{Parsed, Parser, byte, counted}
 use Rattle.model.specs.Pool.{blockIn}
 use Rattle.model.proofs.Facts.{at-past, past-at}
 use Rattle.model.proofs.Reading.{ok-value, ok-offset, next-ok, byte-ok, counted-ok}
@@ -27,11 +27,11 @@ transfer-is s at t short r =
     decodes-transfer .value s at t (r .behind) (r .is) (record { within = omega arith; short = short })
 
 -- behind a block's code stands its transfer
-pub transfer-reads : (s : List ℕ) (e : ℕ) (B : Block) → length s < 2 ^ 64 → CodeAt Read.head s e B
+pub transfer-reads : (p : Parser Head) (s : List ℕ) (e : ℕ) (B : Block) → length s < 2 ^ 64 → CodeAt p s e B
     → (codeEnd s e < length s) × Reads Read.transfer s (codeEnd s e) (B .transfer)
 unfolding Read.blockBy
-transfer-reads s e B short c =
-    let t = next-ok (Read.head s (c .at)) _ (c .block .is) in
+transfer-reads p s e B short c =
+    let t = next-ok (p s (c .at)) _ (c .block .is) in
     let u = next-ok (counted 32 Read.statement s (t .between)) _ (t .then) in
     let v = next-ok (Read.transfer s (u .between)) _ (u .then) in
     let i : t .between < length s = counted-ok 32 Read.statement s (t .between) (u .first) .0 .inside in

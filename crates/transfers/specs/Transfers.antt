@@ -4,11 +4,12 @@ use mathlib.Core.Path.{_≡_}
 use mathlib.Core.Option.{Option, none, Option·map}
 use mathlib.Core.List.{List}
 use lib.ListN.{length, getD, getElem?, replicate}
-use Rattle.model.specs.Syntax.{Transfer, Block, Program}
+use Rattle.model.specs.Syntax.{Transfer, Head, Block, Program}
 use Rattle.model.specs.Read as Read
+use Rattle.model.specs.Read.{Parser}
 use Rattle.model.specs.Pool.{blockIn}
 use Rattle.places.specs.Layout as Layout
-use Rattle.places.specs.Places.{Places, Entry, Found}
+use Rattle.places.specs.Places.{PlacesBy, Entry, Found}
 use Rattle.places.specs.declared.Place.{Place}
 
 -- the layout: block b of function f behind those of the functions before
@@ -36,10 +37,11 @@ pub record Transfers (s : List ℕ) (P : Program) (transfers : List ℕ) : Type 
   pub fewFunctions : (f b : ℕ) → Layout.functions ≤ f → blockIn (getElem? P f) b ≡ none
   pub fewBlocks : (f b : ℕ) → Layout.blocks ≤ b → blockIn (getElem? P f) b ≡ none
 
--- all of them are found, by the places, in an array that had none, where no offset of the table is the entry of a thing that is not there
+-- all of them are found, by the places, whatever heads are read by, in an array that had none, where no offset of the table is the entry
+-- of a thing that is not there
 abbrev pub Finds : List ℕ → List ℕ → List ℕ → List ℕ → Type 0
 Finds s places transfers transfers′ =
-    (P : Program) → Places s P places → length s ≤ Layout.absent → transfers ≡ nowhere → Transfers s P transfers′
+    (P : Program) (p : Parser Head) → PlacesBy p s P places → length s ≤ Layout.absent → transfers ≡ nowhere → Transfers s P transfers′
 
 -- the contract of the lookup, for every table and program that the array has the transfers of
 abbrev pub FindsTransfer : List ℕ → ℕ → ℕ → Place → Type 0

@@ -20,7 +20,7 @@ module _ (s places : List ℕ) (f b done : ℕ) (r : Place) (F : FindsCode place
   pub block-there : (at : ℕ) {n : ℕ} → r ≡ At at → n ≡ byteAt s at → JudgesPlace s places f b done (leb done n)
   unfolding reaches codeAt
   block-there at {n} e c P p =
-      let (B, q, t) = subst (FindsCode places f b) e F s P p in
+      let (B, q, t) = subst (FindsCode places f b) e F s P _ p in
       rw (
         q,
         code-is s (t .at) B (t .block .behind) at (p .short) (t .block .is) (t .head),
@@ -30,14 +30,14 @@ module _ (s places : List ℕ) (f b done : ℕ) (r : Place) (F : FindsCode place
 
   pub block-gone : r ≡ Nowhere → JudgesPlace s places f b done false
   unfolding reaches
-  block-gone e P p = rw (subst (FindsCode places f b) e F s P p)
+  block-gone e P p = rw (subst (FindsCode places f b) e F s P _ p)
 
 -- a spawn call, and none
 module _ {s : List ℕ} {P : Program} {places : List ℕ} (h : Places s P places) where
   pub call-gone : (f n : ℕ) (w : ℤ) (r : Place) → FindsSpawn places f n r → n ≡ plain w → r ≡ Nowhere → isCall P f w ≡ false
   unfolding isCall there
-  call-gone f n w r F m e = rw (← m, subst (FindsSpawn places f n) e F s P h)
+  call-gone f n w r F m e = rw (← m, subst (FindsSpawn places f n) e F s P _ h)
 
   pub call-there : (f n at : ℕ) (w : ℤ) (r : Place) → FindsSpawn places f n r → n ≡ plain w → r ≡ At at → isCall P f w ≡ true
   unfolding isCall there
-  call-there f n at w r F m e = rw (← m, subst (FindsSpawn places f n) e F s P h .1)
+  call-there f n at w r F m e = rw (← m, subst (FindsSpawn places f n) e F s P _ h .1)

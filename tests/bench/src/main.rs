@@ -10,8 +10,8 @@ mod tables;
 use clock::{duel, show, Duel};
 use fast::POOL_WORDS;
 use looping::Looping;
-use mezdaulk::lent;
-use oracle::table::TABLE_MAX;
+use mezdaulk::{lent, OUTPUT_BYTES, SCRATCH_WORDS};
+use oracle::table::{BRIEF_MAX, TABLE_MAX};
 use std::hint::black_box;
 use tables::Calls;
 
@@ -38,6 +38,20 @@ fn main() {
         .each_ref()
         .map(|(name, set)| row("tidy", name, None, tidy(set), 1));
     row("tidy", &dense_name, None, tidy(&dense), 1);
+    let brief: Sets = [
+        ("30 to 60 bytes", tables::small_brief()),
+        ("2,000 bytes", tables::sized_brief(MIDDLE)),
+        ("12,800 bytes", tables::sized_brief(BRIEF_MAX)),
+    ];
+    for (name, set) in &brief {
+        row("complete", name, None, complete(set), 1);
+    }
+    for (open, what) in [(false, "chains"), (true, "chains under four calls")] {
+        let chain = tables::chain(open);
+        let bytes = chain[0].len();
+        let name = format!("{what} against the sweeps, 31 and 32 rounds, {bytes} bytes");
+        row("complete", &name, None, complete(&chain), 1);
+    }
     let small = looping::small(CHOICES);
     let rich = looping::rich(CHOICES);
     let runs: Vec<Looping> = [&small, &rich]
@@ -144,6 +158,25 @@ fn tidy(tables: &[Vec<u8>]) -> Duel {
         tables,
         |table| lent::tidy(table, black_box(&mut left)).is_ok(),
         |table| fast::tidy(table, black_box(&mut right)).is_ok(),
+    )
+}
+
+/// With an output and a scratch that both sides have of their own; the scratch
+/// is 0 already.
+fn complete(tables: &[Vec<u8>]) -> Duel {
+    let (mut left, mut right) = ([0; OUTPUT_BYTES], [0; OUTPUT_BYTES]);
+    let mut scratch = [[0; SCRATCH_WORDS]; 2];
+    for table in tables {
+        let [own, other] = &mut scratch;
+        let written = lent::complete(table, &mut left, own).ok();
+        assert_eq!(written, fast::complete(table, &mut right, other).ok());
+        assert_eq!(left, right);
+    }
+    let [own, other] = &mut scratch;
+    each(
+        tables,
+        |table| lent::complete(table, black_box(&mut left), black_box(own)).is_ok(),
+        |table| fast::complete(table, black_box(&mut right), black_box(other)).is_ok(),
     )
 }
 

@@ -3,10 +3,10 @@
 use fast::Fast;
 use oracle::encode::encode;
 use oracle::full;
-use oracle::gen::{calls, faults, programs, scenario, twins};
-use oracle::machine::{differences, tables_differ, Machine};
+use oracle::gen::{brief, calls, faults, programs, scenario, twins};
+use oracle::machine::{complete_differs, differences, tables_differ, Machine};
 use oracle::rng::Rng;
-use oracle::stored::{frame_starts, tidy_rows};
+use oracle::stored::{brief_rows, frame_starts, tidy_rows};
 use oracle::POOL_WORDS;
 
 #[test]
@@ -47,6 +47,24 @@ fn same_tidy_tables() {
         let program = programs::accepted(rng);
         let found = tables_differ(&Fast, &encode(&twins::twin(rng, &program)));
         assert!(found.is_empty(), "round {round}: {found:?}");
+    }
+}
+
+/// Tables of version 2 of every kind, and the stored ones with their answers.
+#[test]
+fn same_completions() {
+    for row in brief_rows() {
+        let found = tables_differ(&Fast, &row.table);
+        assert!(found.is_empty(), "{}: {found:?}", row.name);
+        let (mut out, mut scratch) = (vec![1; 16_384], vec![1; 1_024]);
+        let given = Fast.complete(&row.table, &mut out, &mut scratch);
+        let given = given.map(|length| out[..length].to_vec());
+        assert_eq!(given, row.completed, "{}", row.name);
+    }
+    for round in 0..20_000 {
+        let input = brief::brief(&mut Rng::of_round(10, round));
+        let found = complete_differs(&Fast, &input.table);
+        assert!(found.is_none(), "round {round}: {found:?}");
     }
 }
 

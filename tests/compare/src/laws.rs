@@ -7,10 +7,15 @@ use oracle::Refusal;
 
 /// The header's constants and, below, its macros of a number answered.
 const POOL_WORDS: usize = 1673;
+const OUTPUT_BYTES: usize = 16_384;
+const SCRATCH_WORDS: usize = 1_024;
 const PROMOTE: u32 = 1;
 const OPEN: u32 = 255;
 const CYCLE: u8 = 22;
 const ROOM: u8 = 23;
+const LENT: u8 = 24;
+const UNREACHED: u8 = 25;
+const IMPOSSIBLE: u8 = 26;
 
 fn is_given(number: u64) -> bool {
     number >> 32 & 1 == 1
@@ -48,7 +53,9 @@ pub fn answer_in(number: u64) -> Result<u32, Refusal> {
     }
     Err(match refused(number) {
         3 => Refusal::byte(place(number)),
-        fault @ 4..=11 => Refusal::fault(fault, function(number), block(number)),
+        fault @ (4..=11 | UNREACHED | IMPOSSIBLE) => {
+            Refusal::fault(fault, function(number), block(number))
+        }
         plain => Refusal::plain(plain),
     })
 }
@@ -65,6 +72,7 @@ pub const READ: Call = call("read", &[(0, 0)], &[(1, 3)]);
 pub const CHECK: Call = call("check", &[(0, 0)], &[(1, 11)]);
 pub const DEPTH: Call = call("depth", &[(1, 16)], &[(1, 11), (CYCLE, CYCLE)]);
 const TIDY: Call = call("tidy", &[LENGTHS], &[(1, 11), (ROOM, ROOM)]);
+const COMPLETE: Call = call("complete", &[LENGTHS], &[(1, 3), (LENT, IMPOSSIBLE)]);
 const START: Call = call("start", &[(0, 0)], &[(1, 3), (12, 12)]);
 const CHOOSE: Call = call("choose", &[(1, 10)], &[(1, 3), (12, 21)]);
 pub const WHICH: Call = call("which", &[(0, 8)], &[(1, 3), (12, 13)]);
@@ -138,6 +146,18 @@ const FITS: &str = "law: a tidy table within the output, its length in its field
 const SHORTER: &str = "law: a tidy table no longer than the table";
 const PAST: &str = "law: the output past the tidy table stays";
 const NO_TIDY: &str = "law: a refused tidy table leaves the output";
+const COMPLETED: &str = "law: a completed table accepted, its length in its field";
+const LONGER: &str =
+    "law: a completed table longer by 3 bytes at least, and 7 for 512 blocks at most";
+const ZEROS: &str = "law: the output past the completed table is 0";
+const NOT_COMPLETED: &str = "law: a refused completion leaves the output";
+const CLEARED: &str = "law: a completion leaves 1,024 words of 0";
+const UNUSED_WORDS: &str = "law: a completion refused with 1 to 3 or 24 leaves the words";
+const KEPT_WORDS: &str = "law: a completion leaves the words past 1,024";
+const LENT_WELL: &str = "law: 24 exactly where too few words or other bytes are lent";
+const AT_UNREACHED: &str = "law: 25 at a block";
+const AT_FUNCTION: &str = "law: 26 at a function, with block 255";
+const OTHER_CALLS: &str = "law: every other call gives version 2 its 2";
 const FRESH: &str = "law: a start leaves a fresh pool";
 const NO_START: &str = "law: a refused start leaves the words";
 const STEPS: &str = "law: a step makes one of rules 1 to 9";
@@ -154,16 +174,54 @@ const AROUND: &str = "law: memory around what is lent stays";
 const WRAPPED: &str = "law: the wrapper answers and writes the same";
 const OWNED: &str = "law: the wrapper's own pool answers and writes the same";
 
-const LAWS: [&str; 30] = [
-    UNUSED, PLACED, AT_BLOCK, AT_SPAWN, AT_MAIN, FUNCTION, ACCEPTED, REFUSED, FUNCTIONS, TIDIED,
-    UNTIDIED, FITS, SHORTER, PAST, NO_TIDY, FRESH, NO_START, STEPS, PROMOTES, NO_CHOICE, ALL_MADE,
-    NONE_MADE, STOPPED, BEHIND, NO_VALUES, UNANSWERED, ONLY_READ, AROUND, WRAPPED, OWNED,
+const LAWS: [&str; 41] = [
+    UNUSED,
+    PLACED,
+    AT_BLOCK,
+    AT_SPAWN,
+    AT_MAIN,
+    FUNCTION,
+    ACCEPTED,
+    REFUSED,
+    FUNCTIONS,
+    TIDIED,
+    UNTIDIED,
+    FITS,
+    SHORTER,
+    PAST,
+    NO_TIDY,
+    COMPLETED,
+    LONGER,
+    ZEROS,
+    NOT_COMPLETED,
+    CLEARED,
+    UNUSED_WORDS,
+    KEPT_WORDS,
+    LENT_WELL,
+    AT_UNREACHED,
+    AT_FUNCTION,
+    OTHER_CALLS,
+    FRESH,
+    NO_START,
+    STEPS,
+    PROMOTES,
+    NO_CHOICE,
+    ALL_MADE,
+    NONE_MADE,
+    STOPPED,
+    BEHIND,
+    NO_VALUES,
+    UNANSWERED,
+    ONLY_READ,
+    AROUND,
+    WRAPPED,
+    OWNED,
 ];
 
 /// What must occur: every law, and every answer of every call.
 pub fn events() -> Vec<String> {
     let calls = [
-        READ, CHECK, DEPTH, TIDY, START, CHOOSE, WHICH, VALUES, SCHEDULE,
+        READ, CHECK, DEPTH, TIDY, COMPLETE, START, CHOOSE, WHICH, VALUES, SCHEDULE,
     ];
     LAWS.iter()
         .map(|law| law.to_string())
@@ -210,7 +268,7 @@ impl Laws {
         let used = match refused(number) {
             _ if is_given(number) => 33,
             3 => 32,
-            4..=11 => 24,
+            4..=11 | UNREACHED | IMPOSSIBLE => 24,
             _ => 8,
         };
         self.assert(UNUSED, number, number >> used == 0);
@@ -221,7 +279,7 @@ impl Laws {
                 let read = (6..=16_384).contains(&bytes);
                 self.assert(PLACED, number, read && place(number) <= bytes);
             }
-            4..=11 => self.fault(table, number),
+            4..=11 | UNREACHED | IMPOSSIBLE => self.fault(table, number),
             _ => {}
         }
     }
@@ -232,6 +290,11 @@ impl Laws {
         self.assert(FUNCTION, number, there);
         let fault = refused(number);
         match block(number) {
+            255 if fault == IMPOSSIBLE => self.assert(AT_FUNCTION, number, true),
+            block if fault == UNREACHED || fault == IMPOSSIBLE => {
+                let entry = block == 0 || fault == IMPOSSIBLE;
+                self.assert(AT_UNREACHED, number, !entry && block < 32);
+            }
             255 if fault == 4 => self.assert(AT_MAIN, number, function(number) == 0),
             255 => self.assert(AT_SPAWN, number, matches!(fault, 6 | 9)),
             block => self.assert(AT_BLOCK, number, fault != 4 && block < 32),
@@ -270,6 +333,53 @@ impl Laws {
         self.assert(FITS, number, length as usize == end && field);
         self.assert(SHORTER, number, end <= table.len());
         self.assert(PAST, number, left[end..] == out[end..]);
+    }
+
+    /// The number of a completion, the output and the scratch before and
+    /// afterwards, and what the check answers to the table written.
+    pub fn complete(
+        &mut self,
+        table: &[u8],
+        number: u64,
+        (out, left): (&[u8], &[u8]),
+        (words, words_left): (&[u32], &[u32]),
+        checked: Option<u64>,
+    ) {
+        self.answer(&COMPLETE, table, number);
+        let lent = out.len() == OUTPUT_BYTES && words.len() >= SCRATCH_WORDS;
+        let read = is_given(number) || refused(number) >= LENT;
+        if read {
+            let well = is_given(number) || refused(number) != LENT;
+            self.assert(LENT_WELL, number, lent == well);
+        }
+        if read && lent {
+            let (used, kept) = words_left.split_at(SCRATCH_WORDS);
+            self.assert(CLEARED, number, used.iter().all(|&word| word == 0));
+            self.assert(KEPT_WORDS, number, *kept == words[SCRATCH_WORDS..]);
+        } else {
+            self.assert(UNUSED_WORDS, number, words_left == words);
+        }
+        if !is_given(number) {
+            self.assert(NOT_COMPLETED, number, left == out);
+            return;
+        }
+        let length = value(number);
+        let end = (length as usize).min(left.len());
+        let field = left.starts_with(&length.to_be_bytes());
+        let accepted = checked.is_some_and(is_given);
+        self.assert(COMPLETED, number, field && accepted);
+        let more = end.wrapping_sub(table.len());
+        self.assert(LONGER, number, (3..=7 * 512).contains(&more));
+        self.assert(ZEROS, number, left[end..].iter().all(|&byte| byte == 0));
+    }
+
+    /// What every other call answers to a table of version 2 that 1 does not
+    /// come to.
+    pub fn other_calls(&mut self, answers: &[Option<u8>]) {
+        for &answer in answers {
+            let number = u64::from(answer.unwrap_or(0));
+            self.assert(OTHER_CALLS, number, answer == Some(2));
+        }
     }
 
     /// The words before and afterwards.

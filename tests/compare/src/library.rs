@@ -22,6 +22,7 @@ pub struct Library {
 /// made.
 const BYTE: u8 = 0xA5;
 const WORD: i32 = 0x5A5A_5A5A;
+const SCRATCH: u32 = 0x5A5A_5A5A;
 const COUNT: u64 = 0x5A5A_5A5A_5A5A_5A5A;
 const STEP: Choice = Choice::step(0);
 
@@ -31,6 +32,35 @@ impl Library {
     /// Counts the answers given since this was last asked.
     pub fn count(&self, tally: &mut Tally) {
         self.laws().count(tally);
+    }
+
+    /// That every call but the completion gives a table of version 2 its 2;
+    /// and the wrapper's completion in bytes of its own, which must be this.
+    pub fn version_2(&self, tally: &mut Tally, table: &[u8], completed: &Result<Vec<u8>, Refusal>) {
+        let own = mezdaulk::complete(table).map_err(refusal);
+        tally.expect(own == *completed, || format!("{own:02x?} of its own"));
+        if table.len() > 16_384 || table.len() < 6 || table[4] != 2 {
+            return;
+        }
+        if self.read(table) == Err(Refusal::plain(1)) {
+            return;
+        }
+        let number = |refusal: Refusal| refusal.number;
+        let (mut pool, mut room, mut made) = (vec![0; Pool::WORDS], [0; 4], 0);
+        let answers = [
+            self.read(table).map_err(number).err(),
+            self.check(table).map_err(number).err(),
+            self.depth(table).map_err(number).err(),
+            self.tidy(table, &mut []).map_err(number).err(),
+            self.start(table, &mut pool).map_err(number).err(),
+            self.choose(table, &mut pool, 0, 0).map_err(number).err(),
+            self.can_step(table, &pool).map_err(number).err(),
+            self.values(table, &pool, &mut room).map_err(number).err(),
+            self.schedule(table, &mut pool, &[], &mut made)
+                .map_err(number)
+                .err(),
+        ];
+        self.laws().other_calls(&answers);
     }
 
     fn laws(&self) -> RefMut<'_, Laws> {
@@ -175,6 +205,35 @@ impl Machine for Library {
         self.laws().memory(number, bytes.left() == table, around);
         let wrapped = lent::tidy(table, out).map(|length| length as u32);
         let answer = self.answer(number, wrapped, out == room.left());
+        answer.map(|length| length as usize)
+    }
+
+    fn complete(
+        &self,
+        table: &[u8],
+        out: &mut [u8],
+        scratch: &mut [u32],
+    ) -> Result<usize, Refusal> {
+        let (mut bytes, mut room) = (Lent::new(table, BYTE), Lent::new(out, BYTE));
+        let mut words = Lent::new(scratch, SCRATCH);
+        let (t, o, s) = (bytes.pointer(), room.pointer(), words.pointer());
+        let number =
+            unsafe { raw::mezdaulk_complete(t, table.len(), o, out.len(), s, scratch.len()) };
+        let length = answer_in(number).ok();
+        let written = length.and_then(|length| room.left().get(..length as usize));
+        let checked = written.map(|w| unsafe { raw::mezdaulk_check(w.as_ptr(), w.len()) });
+        self.laws().complete(
+            table,
+            number,
+            (out, room.left()),
+            (scratch, words.left()),
+            checked,
+        );
+        let around = bytes.guarded() && room.guarded() && words.guarded();
+        self.laws().memory(number, bytes.left() == table, around);
+        let wrapped = lent::complete(table, out, scratch).map(|length| length as u32);
+        let same = out == room.left() && scratch == words.left();
+        let answer = self.answer(number, wrapped, same);
         answer.map(|length| length as usize)
     }
 

@@ -3,11 +3,13 @@
 //! places, and what is written; asserts the laws of every number answered and
 //! of the memory lent; and asserts demand 3 of the library, what depths say,
 //! and that tidy tables answer as their tables, on random runs of accepted
-//! tables. Stored tables are tidied too, and a pool is filled to see where each
-//! frame begins.
+//! tables. Tables of version 2 are completed, whose completions are known where
+//! their making tells them. Stored tables are tidied and completed too, and a
+//! pool is filled to see where each frame begins.
 //!
 //! `compare SEED COUNT`; the last line is `compare: N passed, M failed`.
 
+mod brief;
 mod laws;
 mod lent;
 mod library;
@@ -17,6 +19,7 @@ mod twins;
 
 use library::Library;
 use oracle::encode::encode;
+use oracle::gen::brief::{brief, Kind as BriefKind};
 use oracle::gen::calls::{self, Calling};
 use oracle::gen::faults::{self, Kind};
 use oracle::gen::{programs, scenario, Source, NOTES};
@@ -39,6 +42,7 @@ fn main() -> ExitCode {
     let library = Library::default();
     let mut tally = Tally::new("compare", events());
     twins::check_stored(&mut tally, &library);
+    brief::check_stored(&mut tally, &library);
     starts::check_full(&mut tally, &library);
     for round in 0..count {
         tally.round = round;
@@ -55,6 +59,8 @@ fn main() -> ExitCode {
             calling
         };
         twins::check_twins(&mut tally, &library, &mut rng, &one);
+        let input = brief(&mut rng);
+        brief::check_brief(&mut tally, &library, &mut rng, &input);
         library.count(&mut tally);
     }
     tally.finish()
@@ -69,6 +75,9 @@ fn events() -> Vec<String> {
     events.extend(watch::EVENTS.map(String::from));
     events.extend(watch::TIDIED.map(String::from));
     events.extend(twins::EVENTS.map(String::from));
+    events.extend(brief::EVENTS.map(String::from));
+    events.extend(BriefKind::ALL.map(BriefKind::event));
+    events.extend(watch::COMPLETED.map(String::from));
     events.extend(Source::ALL.map(|source| format!("scenario {source:?}")));
     events.extend(NOTES.map(String::from));
     let others = [FULL_SIZE, PAIR, LONG, starts::EVENT];

@@ -29,15 +29,22 @@ pub fn check_program(program: &Program) -> Result<(), Refusal> {
         return Err(Refusal::fault(MAIN, 0, NO_BLOCK));
     }
     for (f, function) in program.functions.iter().enumerate() {
-        check_spawns(program, function).map_err(|n| Refusal::fault(n, f, NO_BLOCK))?;
-        for (b, block) in function.blocks.iter().enumerate() {
-            let judge = Judge {
-                program,
-                function,
-                block,
-            };
-            judge.verdict(b == 0).map_err(|n| Refusal::fault(n, f, b))?;
-        }
+        check_function(program, function).map_err(|(n, b)| Refusal::fault(n, f, b))?;
+    }
+    Ok(())
+}
+
+/// Judges a function among those of a program, of which only parameters and
+/// returned values are looked at; gives the first fault with its block.
+pub fn check_function(program: &Program, function: &Function) -> Result<(), (u8, usize)> {
+    check_spawns(program, function).map_err(|n| (n, NO_BLOCK))?;
+    for (b, block) in function.blocks.iter().enumerate() {
+        let judge = Judge {
+            program,
+            function,
+            block,
+        };
+        judge.verdict(b == 0).map_err(|n| (n, b))?;
     }
     Ok(())
 }

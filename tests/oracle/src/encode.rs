@@ -1,9 +1,9 @@
 //! A program's bytes, each with the range its place allows.
 
 use crate::table::{
-    Atom, Block, Expression, Function, Program, SpawnCall, Statement, Temporary, Transfer,
+    Atom, Block, Expression, Function, Program, SpawnCall, Statement, Temporary, Transfer, Version,
     MAX_BLOCKS, MAX_FUNCTIONS, MAX_NESTING, MAX_PARAMETERS, MAX_RETURNS, MAX_SPAWNS,
-    MAX_STATEMENTS, MAX_TEMPORARY, VERSION,
+    MAX_STATEMENTS, MAX_TEMPORARY,
 };
 
 /// A byte of a table and the smallest and largest byte allowed in its place.
@@ -16,14 +16,28 @@ pub struct Ranged {
 
 /// The table of a program.
 pub fn encode(program: &Program) -> Vec<u8> {
-    encode_ranged(program).iter().map(|r| r.byte).collect()
+    encode_as(program, Version::Full)
 }
 
-/// The table of a program with the range of each byte.
-pub fn encode_ranged(program: &Program) -> Vec<Ranged> {
-    let mut writer = Writer { bytes: Vec::new() };
+/// Its table of version 2, without its scopes and nestings.
+pub fn encode_brief(program: &Program) -> Vec<u8> {
+    encode_as(program, Version::Brief)
+}
+
+/// Its table of a version.
+pub fn encode_as(program: &Program, version: Version) -> Vec<u8> {
+    let ranged = encode_ranged(program, version);
+    ranged.iter().map(|r| r.byte).collect()
+}
+
+/// The same with the range of each byte.
+pub fn encode_ranged(program: &Program, version: Version) -> Vec<Ranged> {
+    let mut writer = Writer {
+        bytes: Vec::new(),
+        version,
+    };
     writer.any(&[0; 4]);
-    writer.any(&[VERSION]);
+    writer.any(&[version.number()]);
     writer.count(program.functions.len(), 1, MAX_FUNCTIONS);
     for function in &program.functions {
         writer.function(function);
@@ -46,6 +60,7 @@ pub fn fix_length(table: &mut [u8]) {
 
 struct Writer {
     bytes: Vec<Ranged>,
+    version: Version,
 }
 
 impl Writer {
@@ -95,10 +110,12 @@ impl Writer {
 
     fn block(&mut self, block: &Block) {
         self.arguments(&block.parameters, MAX_PARAMETERS);
-        let scope = block.scope.iter().fold(0u16, |bits, t| bits | 1 << t);
-        self.any(&scope.to_be_bytes());
-        self.count(block.nesting.len(), 0, MAX_NESTING);
-        self.any(&block.nesting);
+        if self.version == Version::Full {
+            let scope = block.scope.iter().fold(0u16, |bits, t| bits | 1 << t);
+            self.any(&scope.to_be_bytes());
+            self.count(block.nesting.len(), 0, MAX_NESTING);
+            self.any(&block.nesting);
+        }
         self.count(block.statements.len(), 0, MAX_STATEMENTS);
         for statement in &block.statements {
             self.statement(statement);

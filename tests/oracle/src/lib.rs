@@ -5,8 +5,10 @@
 //! leaves the lent words as they were.
 
 pub mod check;
+pub mod complete;
 pub mod depth;
 pub mod encode;
+pub mod every;
 pub mod full;
 pub mod gen;
 pub mod graph;
@@ -23,11 +25,12 @@ pub mod tidy;
 pub mod watch;
 
 pub use check::check;
+pub use complete::complete;
 pub use depth::depth;
 pub use pool::{Pool, POOL_WORDS};
 pub use refusal::{Place, Refusal};
 pub use rules::Rule;
-pub use table::{read, Program};
+pub use table::{read, read_brief, Program};
 pub use tidy::tidy;
 
 /// Writes the start of a table's main into 1,673 words; refusals 1 to 3 and 12.

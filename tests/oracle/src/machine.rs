@@ -1,9 +1,13 @@
 //! Another implementation put to the same inputs as this one.
 
+use crate::complete::{completed, LENT, OUTPUT, SCRATCH};
+use crate::encode::encode;
 use crate::gen::schedules::Choice;
 use crate::gen::Scenario;
 use crate::refusal::Refusal;
+use crate::rng::Rng;
 use crate::rules::{PROMOTE, STEP};
+use crate::table::{Version, TABLE_MIN};
 use crate::tidy;
 
 /// The calls of an implementation. Rules are their numbers; "which thread can
@@ -14,6 +18,10 @@ pub trait Machine {
     fn depth(&self, table: &[u8]) -> Result<u8, Refusal>;
     /// The length of the tidy table, which is written at the start of `out`.
     fn tidy(&self, table: &[u8], out: &mut [u8]) -> Result<usize, Refusal>;
+    /// The length of the completed table, which is written to `out` with 0
+    /// behind it.
+    fn complete(&self, table: &[u8], out: &mut [u8], scratch: &mut [u32])
+        -> Result<usize, Refusal>;
     fn start(&self, table: &[u8], pool: &mut [i32]) -> Result<(), Refusal>;
     fn choose(&self, table: &[u8], pool: &mut [i32], kind: u64, thread: u64)
         -> Result<u8, Refusal>;
@@ -58,6 +66,15 @@ impl Machine for Oracle {
 
     fn tidy(&self, table: &[u8], out: &mut [u8]) -> Result<usize, Refusal> {
         crate::tidy(table, out)
+    }
+
+    fn complete(
+        &self,
+        table: &[u8],
+        out: &mut [u8],
+        scratch: &mut [u32],
+    ) -> Result<usize, Refusal> {
+        crate::complete(table, out, scratch)
     }
 
     fn start(&self, table: &[u8], pool: &mut [i32]) -> Result<(), Refusal> {
@@ -122,7 +139,7 @@ pub fn differences(machine: &dyn Machine, input: &Scenario) -> Vec<String> {
     found
 }
 
-/// Reading, checking, the depth and the tidy table.
+/// Reading, checking, the depth, the tidy table and the completion.
 pub fn tables_differ(machine: &dyn Machine, table: &[u8]) -> Vec<String> {
     let checked = Oracle.check(table);
     [
@@ -130,6 +147,7 @@ pub fn tables_differ(machine: &dyn Machine, table: &[u8]) -> Vec<String> {
         differs("check", machine.check(table), checked),
         differs("depth", machine.depth(table), Oracle.depth(table)),
         tidy_differs(machine, table, checked),
+        complete_differs(machine, table),
     ]
     .into_iter()
     .flatten()
@@ -170,6 +188,71 @@ fn tidy_differs(
     })
 }
 
+/// The numbers of bytes and words that are lent to a completion: of a table that
+/// reads the right ones, as few and as many more as can be, and none; of others
+/// the right ones where they are of version 2, and any.
+fn lendings(table: &[u8], reads: bool) -> Vec<(usize, usize)> {
+    let any = (table.len() % 7, table.len() % 5);
+    if reads {
+        vec![
+            (OUTPUT, SCRATCH),
+            (OUTPUT, SCRATCH + 1),
+            (OUTPUT, SCRATCH + 1 + any.1),
+            (OUTPUT, SCRATCH - 1),
+            (OUTPUT, 0),
+            (OUTPUT - 1, SCRATCH),
+            (OUTPUT + 1, SCRATCH),
+            (0, SCRATCH),
+        ]
+    } else if table.get(4) == Some(&Version::Brief.number()) && table.len() >= TABLE_MIN {
+        vec![(OUTPUT, SCRATCH + 1), any]
+    } else {
+        vec![any]
+    }
+}
+
+/// Any bytes and words, the same ones for a table each time.
+pub fn hostile(table: &[u8], room: usize, words: usize) -> (Vec<u8>, Vec<u32>) {
+    let sum = |sum: u64, &byte: &u8| sum.wrapping_mul(31).wrapping_add(byte.into());
+    let mut rng = Rng::new(table.iter().fold(1, sum));
+    let words = (0..words).map(|_| rng.bits() as u32).collect();
+    let mut out = Vec::with_capacity(room + 7);
+    while out.len() < room {
+        out.extend(rng.bits().to_ne_bytes());
+    }
+    out.truncate(room);
+    (out, words)
+}
+
+/// The completion, with what it leaves in the output and in the scratch.
+pub fn complete_differs(machine: &dyn Machine, table: &[u8]) -> Option<String> {
+    let read = crate::read_brief(table);
+    let right = |program| completed(program).map(|program| encode(&program));
+    let right = read.as_ref().map(right);
+    lendings(table, right.is_ok())
+        .into_iter()
+        .find_map(|(room, words)| {
+            let (out, scratch) = hostile(table, room, words);
+            let (mut left, mut kept) = (out.clone(), scratch.clone());
+            let answer = machine.complete(table, &mut left, &mut kept);
+            let fits = room == OUTPUT && words >= SCRATCH;
+            let cleared = || [&[0; SCRATCH], &scratch[SCRATCH..]].concat();
+            let (due, out, scratch) = match &right {
+                Err(refusal) => (Err(**refusal), out, scratch),
+                Ok(_) if !fits => (Err(Refusal::plain(LENT)), out, scratch),
+                Ok(Err(refusal)) => (Err(*refusal), out, cleared()),
+                Ok(Ok(table)) => {
+                    let rest = vec![0; OUTPUT - table.len()];
+                    (Ok(table.len()), [&table[..], &rest].concat(), cleared())
+                }
+            };
+            let what = format!("complete with {room} bytes and {words} words");
+            differs(&what, answer, due)
+                .or_else(|| items_differ(&what, &left, &out))
+                .or_else(|| items_differ(&what, &kept, &scratch))
+        })
+}
+
 /// Says what was given and what is right, where they differ.
 fn differs<T: PartialEq + std::fmt::Debug>(what: &str, given: T, right: T) -> Option<String> {
     (given != right).then(|| format!("{what}: {given:?} given, {right:?} right"))
@@ -180,14 +263,18 @@ fn start_differs(machine: &dyn Machine, input: &Scenario) -> Option<String> {
     let mut right = input.words.clone();
     let answer = machine.start(&input.table, &mut given);
     let due = Oracle.start(&input.table, &mut right);
-    differs("start", answer, due).or_else(|| words_differ("start", &given, &right))
+    differs("start", answer, due).or_else(|| items_differ("start", &given, &right))
 }
 
-/// The first word that differs.
-fn words_differ(what: &str, given: &[i32], right: &[i32]) -> Option<String> {
+/// The first byte or word that differs.
+fn items_differ<T: PartialEq + std::fmt::Debug>(
+    what: &str,
+    given: &[T],
+    right: &[T],
+) -> Option<String> {
     let at = given.iter().zip(right).position(|(a, b)| a != b)?;
     Some(format!(
-        "{what}: word {at} is {}, {} is right",
+        "{what}: at {at} stands {:?}, {:?} is right",
         given[at], right[at]
     ))
 }
@@ -245,7 +332,7 @@ fn choice_differs(
     let mut right = input.words.clone();
     let answer = machine.choose(&input.table, &mut given, kind, thread);
     let due = Oracle.choose(&input.table, &mut right, kind, thread);
-    differs(&what, answer, due).or_else(|| words_differ(&what, &given, &right))
+    differs(&what, answer, due).or_else(|| items_differ(&what, &given, &right))
 }
 
 fn schedule_differs(machine: &dyn Machine, input: &Scenario, choices: &[Choice]) -> Option<String> {
@@ -256,5 +343,5 @@ fn schedule_differs(machine: &dyn Machine, input: &Scenario, choices: &[Choice])
     let due = Oracle.schedule(&input.table, &mut right, choices, &mut right_made);
     differs("schedule", answer, due)
         .or_else(|| differs("number made", given_made, right_made))
-        .or_else(|| words_differ("schedule", &given, &right))
+        .or_else(|| items_differ("schedule", &given, &right))
 }

@@ -3,18 +3,18 @@
 /// Where a refusal points to.
 #[derive(Clone, Copy, Debug, PartialEq, Eq, Hash, PartialOrd, Ord)]
 pub enum Place {
-    /// No place (1, 2 and everything from 12 on).
+    /// No place (1, 2 and 12 to 24).
     Nowhere,
     /// An offset in the table (3).
     Offset(usize),
-    /// A function and a block, 255 standing for no block (4 to 11).
+    /// A function and a block, 255 standing for no block (4 to 11, 25, 26).
     Block(usize, usize),
 }
 
 /// The block number given for a fault that lies in no block.
 pub const NO_BLOCK: usize = 255;
 
-/// A refusal: its number (1 to 23) and its place.
+/// A refusal: its number (1 to 26) and its place.
 #[derive(Clone, Copy, Debug, PartialEq, Eq, Hash)]
 pub struct Refusal {
     pub number: u8,
@@ -38,7 +38,7 @@ impl Refusal {
         }
     }
 
-    /// A fault of the check in a function and block.
+    /// A fault of the check or of a completion in a function and block.
     pub fn fault(number: u8, function: usize, block: usize) -> Self {
         Refusal {
             number,

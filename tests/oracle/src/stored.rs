@@ -1,6 +1,8 @@
 //! What is stored beside this implementation: tables with their tidy tables,
-//! the tables of the stored cases, and the frame starts.
+//! tables of version 2 with what their completion gives, the tables of the
+//! stored cases, and the frame starts.
 
+use crate::refusal::Refusal;
 use std::fs;
 use std::path::{Path, PathBuf};
 
@@ -12,17 +14,36 @@ pub struct Row {
     pub tidy: Vec<u8>,
 }
 
+/// A table of version 2 and its completed table, or what it is refused with.
+#[derive(Clone, Debug, PartialEq, Eq)]
+pub struct BriefRow {
+    pub name: String,
+    pub table: Vec<u8>,
+    pub completed: Result<Vec<u8>, Refusal>,
+}
+
 /// A file or folder of the tests.
 fn stored(name: &str) -> PathBuf {
     Path::new(env!("CARGO_MANIFEST_DIR")).join("..").join(name)
 }
 
-/// The rows of `tests/tidy/rows.txt`.
-pub fn tidy_rows() -> Vec<Row> {
-    let text = fs::read_to_string(stored("tidy/rows.txt")).expect("the rows are there");
+/// The rows of a file, without its comments; what stands before the first is
+/// left out.
+fn rows<T>(name: &str, row: fn(&str) -> T) -> Vec<T> {
+    let text = fs::read_to_string(stored(name)).expect("the rows are there");
     let lines = text.lines().filter(|line| !line.starts_with('#'));
     let text: String = lines.flat_map(|line| [line, "\n"]).collect();
-    text.split("row ").skip(1).map(row).collect()
+    text.split("\nrow ").skip(1).map(row).collect()
+}
+
+/// The rows of `tests/tidy/rows.txt`.
+pub fn tidy_rows() -> Vec<Row> {
+    rows("tidy/rows.txt", row)
+}
+
+/// The rows of `tests/complete/rows.txt`.
+pub fn brief_rows() -> Vec<BriefRow> {
+    rows("complete/rows.txt", brief_row)
 }
 
 fn row(text: &str) -> Row {
@@ -32,6 +53,34 @@ fn row(text: &str) -> Row {
         name: name.to_string(),
         table: bytes(table),
         tidy: bytes(tidy),
+    }
+}
+
+fn brief_row(text: &str) -> BriefRow {
+    let (name, rest) = text.split_once("\ntable\n").expect("a row has a table");
+    let (table, completed) = match rest.split_once("\ncompleted\n") {
+        Some((table, completed)) => (table, Ok(bytes(completed))),
+        None => {
+            let (table, refused) = rest.split_once("\nrefused ").expect("a row has an answer");
+            (table, Err(refusal(refused)))
+        }
+    };
+    BriefRow {
+        name: name.to_string(),
+        table: bytes(table),
+        completed,
+    }
+}
+
+/// A refusal's number, and its place where it has one.
+fn refusal(text: &str) -> Refusal {
+    let words = text.split_whitespace();
+    let numbers: Vec<usize> = words.map(|word| word.parse().expect("a number")).collect();
+    match numbers[..] {
+        [number] => Refusal::plain(number as u8),
+        [3, at] => Refusal::byte(at),
+        [number, function, block] => Refusal::fault(number as u8, function, block),
+        _ => panic!("no refusal: {text}"),
     }
 }
 

@@ -6,8 +6,33 @@ use std::collections::BTreeSet;
 /// Smallest and largest number of bytes of a table.
 pub const TABLE_MIN: usize = 6;
 pub const TABLE_MAX: usize = 16_384;
-/// The only version there is.
-pub const VERSION: u8 = 1;
+/// Largest number of bytes of a table of version 2.
+pub const BRIEF_MAX: usize = 12_800;
+
+/// The versions of a table. The second has no scopes and no nestings.
+#[derive(Clone, Copy, Debug, PartialEq, Eq)]
+pub enum Version {
+    Full,
+    Brief,
+}
+
+impl Version {
+    /// The byte that names the version.
+    pub fn number(self) -> u8 {
+        match self {
+            Version::Full => 1,
+            Version::Brief => 2,
+        }
+    }
+
+    /// The largest number of bytes.
+    pub fn most(self) -> usize {
+        match self {
+            Version::Full => TABLE_MAX,
+            Version::Brief => BRIEF_MAX,
+        }
+    }
+}
 
 /// Limits of the counts in a table.
 pub const MAX_FUNCTIONS: u8 = 16;
@@ -142,6 +167,23 @@ impl Expression {
 }
 
 impl Transfer {
+    /// The blocks that the transfer names, from left to right.
+    pub fn targets(&self) -> Vec<Name> {
+        match *self {
+            Transfer::Goto { block, .. } => vec![block],
+            Transfer::If {
+                then, otherwise, ..
+            } => vec![then, otherwise],
+            Transfer::Call { return_block, .. } => vec![return_block],
+            Transfer::Return { .. } => Vec::new(),
+            Transfer::Spork { body, .. } => vec![body],
+            Transfer::Spoin {
+                unpromoted,
+                promoted,
+            } => vec![unpromoted, promoted],
+        }
+    }
+
     /// The temporaries the transfer reads; a spork and a spoin read none.
     pub fn temporaries(&self) -> Vec<Temporary> {
         match self {
@@ -156,29 +198,40 @@ impl Transfer {
 
 /// Reads a table, refusing with 1, 2 or 3.
 pub fn read(table: &[u8]) -> Result<Program, Refusal> {
-    if table.len() < TABLE_MIN || table.len() > TABLE_MAX {
+    read_as(table, Version::Full)
+}
+
+/// The same of a table of version 2: every scope and nesting is empty.
+pub fn read_brief(table: &[u8]) -> Result<Program, Refusal> {
+    read_as(table, Version::Brief)
+}
+
+fn read_as(table: &[u8], version: Version) -> Result<Program, Refusal> {
+    if table.len() < TABLE_MIN || table.len() > version.most() {
         return Err(Refusal::plain(1));
     }
     let field = u32::from_be_bytes([table[0], table[1], table[2], table[3]]);
     if field as usize != table.len() {
         return Err(Refusal::plain(1));
     }
-    if table[4] != VERSION {
+    if table[4] != version.number() {
         return Err(Refusal::plain(2));
     }
     let mut reader = Reader {
         rest: &table[5..],
         end: table.len(),
+        version,
     };
     let program = reader.program()?;
     reader.finish()?;
     Ok(program)
 }
 
-/// The bytes not yet read and the length of the whole table.
+/// The bytes not yet read, the length of the whole table, and its version.
 struct Reader<'a> {
     rest: &'a [u8],
     end: usize,
+    version: Version,
 }
 
 impl Reader<'_> {
@@ -263,9 +316,10 @@ impl Reader<'_> {
 
     fn block(&mut self) -> Result<Block, Refusal> {
         let parameters = self.arguments(MAX_PARAMETERS)?;
-        let scope = self.scope()?;
-        let depth = self.up_to(MAX_NESTING)?;
-        let nesting = (0..depth).map(|_| self.any()).collect::<Result<_, _>>()?;
+        let (scope, nesting) = match self.version {
+            Version::Full => (self.scope()?, self.nesting()?),
+            Version::Brief => (BTreeSet::new(), Vec::new()),
+        };
         let count = self.up_to(MAX_STATEMENTS)?;
         let statements = (0..count)
             .map(|_| self.statement())
@@ -285,6 +339,11 @@ impl Reader<'_> {
         Ok((0..=MAX_TEMPORARY)
             .filter(|&t| (bits >> t) & 1 == 1)
             .collect())
+    }
+
+    fn nesting(&mut self) -> Result<Vec<Name>, Refusal> {
+        let depth = self.up_to(MAX_NESTING)?;
+        (0..depth).map(|_| self.any()).collect()
     }
 
     fn statement(&mut self) -> Result<Statement, Refusal> {

@@ -1,12 +1,12 @@
 //! What is worth counting: the shapes of programs, joins, and what pools reach.
 
 use crate::depth;
-use crate::gen::programs::targets_mut;
-use crate::graph::{behind, cyclic, Graph};
+use crate::graph::{cyclic, jumps, live, Graph};
 use crate::pool::{Pool, Thread, MAX_CALLS, MAX_FRAMES, MAX_THREADS};
 use crate::rules::{ended, transfer};
 use crate::table::{
-    Function, Name, Program, Transfer, MAX_BLOCKS, MAX_FUNCTIONS, MAX_NESTING, MAX_SPAWNS,
+    Function, Name, Program, Transfer, BRIEF_MAX, MAX_BLOCKS, MAX_FUNCTIONS, MAX_NESTING,
+    MAX_SPAWNS,
 };
 use crate::tidy::Numbering;
 
@@ -40,24 +40,12 @@ pub fn shapes(program: &Program) -> Vec<&'static str> {
     note(blocks.iter().any(cyclic), LOOP);
     note(cyclic(&mentions(program)), RECURSION);
     note(
-        blocks.iter().any(|graph| {
-            let live = behind(graph, 0);
-            (1..graph.len()).any(|block| !live[block])
-        }),
+        functions
+            .iter()
+            .any(|function| live(function).contains(&false)),
         DEAD,
     );
     found
-}
-
-/// The blocks that each block of a function goes to.
-fn jumps(function: &Function) -> Graph {
-    let named = |transfer: &Transfer| {
-        targets_mut(&mut transfer.clone())
-            .into_iter()
-            .map(|name| usize::from(*name))
-            .collect()
-    };
-    function.blocks.iter().map(|b| named(&b.transfer)).collect()
 }
 
 /// The functions that each function calls or spawns.
@@ -128,6 +116,53 @@ pub fn tidied(program: &Program, numbering: &Numbering) -> Vec<&'static str> {
         pairs().any(|(_, new)| all(new.spawns.len(), MAX_SPAWNS)),
     ];
     let found = TIDIED.into_iter().zip(holds);
+    found
+        .filter_map(|(event, held)| held.then_some(event))
+        .collect()
+}
+
+/// What completed programs are like, by name.
+pub const COMPLETED: [&str; 8] = [
+    SMALLER,
+    AS_LARGE,
+    FOUR_DEEP,
+    ROUND,
+    TO_ENTRY,
+    MOST_FUNCTIONS,
+    MOST_BLOCKS,
+    LARGEST,
+];
+
+const SMALLER: &str = "completed: a scope is smaller than one that passes";
+const AS_LARGE: &str = "completed: all scopes are those known";
+const FOUR_DEEP: &str = "completed: a nesting of four";
+const ROUND: &str = "completed: a loop";
+const TO_ENTRY: &str = "completed: a jump to an entry with parameters";
+const MOST_FUNCTIONS: &str = "completed: 16 functions";
+const MOST_BLOCKS: &str = "completed: 32 blocks of a function";
+const LARGEST: &str = "completed: a table of 12800 bytes";
+
+/// What a completed program is like, beside one that passes, and with the
+/// number of bytes that were completed.
+pub fn completed(program: &Program, known: &Program, bytes: usize) -> Vec<&'static str> {
+    let functions = &program.functions;
+    let blocks = || functions.iter().flat_map(|function| &function.blocks);
+    let to_entry = |function: &Function| {
+        function.parameters > 0 && jumps(function).iter().flatten().any(|&b| b == 0)
+    };
+    let holds = [
+        program != known,
+        program == known,
+        blocks().any(|block| block.nesting.len() == usize::from(MAX_NESTING)),
+        functions.iter().any(|function| cyclic(&jumps(function))),
+        functions.iter().any(to_entry),
+        functions.len() == usize::from(MAX_FUNCTIONS),
+        functions
+            .iter()
+            .any(|function| function.blocks.len() == usize::from(MAX_BLOCKS)),
+        bytes == BRIEF_MAX,
+    ];
+    let found = COMPLETED.into_iter().zip(holds);
     found
         .filter_map(|(event, held)| held.then_some(event))
         .collect()

@@ -5,7 +5,7 @@ use lib.ListN.{length}
 use borrow.Author.Needs.{needs}
 use Rattle.code.specs.Code.{run}
 use Rattle.kept.specs.Kept.{numberIn}
-use Rattle.tidy.proofs.Left.{Left, all-left}
+use Rattle.puts.proofs.Left.{Left, all-left}
 use Rattle.tidy.proofs.Putting.{names-on, names-end}
 use Rattle.tidy.proofs.put_names.Statement.{statement}
 use Rattle.tidy.proofs.put_names.Tie as tie

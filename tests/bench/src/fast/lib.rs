@@ -2,6 +2,7 @@
 //! words in place, with one array of places and no allocation.
 
 mod check;
+mod complete;
 mod depth;
 mod judge;
 mod machine;
@@ -11,6 +12,7 @@ mod rules;
 mod tidy;
 
 pub use check::check;
+pub use complete::complete;
 pub use depth::depth;
 pub use machine::Fast;
 pub use tidy::tidy;

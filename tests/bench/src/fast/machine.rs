@@ -34,6 +34,15 @@ impl Machine for Fast {
         given(super::tidy(table, out))
     }
 
+    fn complete(
+        &self,
+        table: &[u8],
+        out: &mut [u8],
+        scratch: &mut [u32],
+    ) -> Result<usize, oracle::Refusal> {
+        given(super::complete(table, out, scratch))
+    }
+
     fn start(&self, table: &[u8], pool: &mut [i32]) -> Result<(), oracle::Refusal> {
         given(super::start(table, pool))
     }

@@ -1,18 +1,23 @@
 //! Puts the generators' inputs to the implementation and asserts what must
 //! hold of it: `selfcheck SEED COUNT`.
 
+use oracle::complete::completed;
 use oracle::depth::{self, depth_of, CYCLE};
-use oracle::encode::encode;
+use oracle::encode::{encode, encode_brief};
+use oracle::every;
+use oracle::gen::brief::{self, bare, Brief};
 use oracle::gen::calls::{self, Calling};
 use oracle::gen::faults::{self, Kind, Planted};
 use oracle::gen::schedules::{guided_choice, Choice, Policy};
+use oracle::gen::small::small;
 use oracle::gen::twins::twin;
 use oracle::gen::{bytes, programs, scenario, Scenario};
-use oracle::machine::{differences, unwritten, Oracle};
+use oracle::graph::live;
+use oracle::machine::{complete_differs, differences, unwritten, Oracle};
 use oracle::pool::{Pool, MAX_FRAMES};
 use oracle::rng::Rng;
 use oracle::rules::{self, ended, Rule, PROMOTE, STEP};
-use oracle::table::{Program, MAX_FUNCTIONS, TABLE_MAX};
+use oracle::table::{Function, Program, MAX_FUNCTIONS, TABLE_MAX};
 use oracle::tally::Tally;
 use oracle::tidy::{is_tidy, tidied, Numbering, ROOM};
 use oracle::watch::{self, join, join_event};
@@ -38,8 +43,9 @@ fn main() -> ExitCode {
 }
 
 /// One round: an accepted table, its tidy table and its run, planted faults,
-/// spoiled bytes, scenarios, and a table rich in calls, all from the seed and
-/// the round's number.
+/// spoiled bytes, scenarios, a table rich in calls, tables of version 2, and a
+/// small program of which all scopes and nestings are tried; all from the seed
+/// and the round's number.
 fn check_round(tally: &mut Tally, rng: &mut Rng) {
     let program = programs::accepted(rng);
     check_accepted(tally, &program, None);
@@ -59,6 +65,10 @@ fn check_round(tally: &mut Tally, rng: &mut Rng) {
         }
     }
     check_calls(tally, rng);
+    for _ in 0..3 {
+        check_brief(tally, &brief::brief(rng));
+    }
+    check_every(tally, &small(rng));
 }
 
 /// A table rich in calls: its depth, its tidy table, a run, and faults that
@@ -85,6 +95,8 @@ fn events() -> Vec<String> {
     events.extend((1..=MAX_FUNCTIONS).map(depth_event));
     events.extend(watch::EVENTS.map(String::from));
     events.extend(watch::TIDIED.map(String::from));
+    events.extend(brief::Kind::ALL.map(brief::Kind::event));
+    events.extend(watch::COMPLETED.map(String::from));
     events.extend(
         [
             "run that returned",
@@ -95,6 +107,10 @@ fn events() -> Vec<String> {
             BY_ROUNDS,
             AT_DEPTH,
             OUT_OF_FRAMES,
+            ONE_PASSES,
+            SOME_PASS,
+            NONE_PASSES,
+            LATER_PASSES,
         ]
         .map(String::from),
     );
@@ -105,6 +121,11 @@ const BY_PATHS: &str = "depth by all paths";
 const BY_ROUNDS: &str = "depth by rounds alone";
 const AT_DEPTH: &str = "thread of as many frames as the depth, above 1";
 const OUT_OF_FRAMES: &str = "18 at a depth above 8";
+
+const ONE_PASSES: &str = "all tried: one passes for some blocks";
+const SOME_PASS: &str = "all tried: several pass for some blocks";
+const NONE_PASSES: &str = "all tried: none passes";
+const LATER_PASSES: &str = "all tried: none passes for a function, and some for one before it";
 
 fn depth_event(depth: u8) -> String {
     format!("depth {depth}")
@@ -216,6 +237,143 @@ fn check_untidy(tally: &mut Tally, table: &[u8]) {
         refused => answer.err() == refused.err() && out == unwritten(table.len()),
     };
     tally.expect(fits, || format!("tidied: {answer:?}"));
+}
+
+/// A table of version 2: what its completion leaves is right in every lending,
+/// and its answer is the one that is known.
+fn check_brief(tally: &mut Tally, input: &Brief) {
+    let table = &input.table;
+    tally.event(&input.kind.event());
+    let found = complete_differs(&Oracle, table);
+    tally.expect(found.is_none(), || format!("{found:?}: {table:02x?}"));
+    check_other_calls(tally, table);
+    let answer = oracle::read_brief(table).and_then(|program| completed(&program));
+    if let Err(refusal) = oracle::complete(table, &mut [], &mut []) {
+        tally.refusal(refusal.number);
+    }
+    if let Err(refusal) = answer {
+        tally.refusal(refusal.number);
+    }
+    if let Ok(program) = &answer {
+        check_completed(tally, program, table);
+    }
+    match (&answer, &input.known) {
+        (Ok(program), Some(Ok(known))) => {
+            check_smallest(tally, program, known);
+            tally.expect(!input.smallest || program == known, || {
+                format!("{known:?} has the smallest scopes, {program:?} given")
+            });
+            for event in watch::completed(program, known, table.len()) {
+                tally.event(event);
+            }
+        }
+        (answer, Some(known)) => {
+            let (given, due) = (answer.as_ref().err(), known.as_ref().err());
+            tally.expect(given == due, || format!("{due:?} due, {given:?} given"));
+        }
+        (_, None) => {}
+    }
+}
+
+/// Every other call gives a table of version 2 its 2, where it does not give 1.
+fn check_other_calls(tally: &mut Tally, table: &[u8]) {
+    let read = oracle::read(table).map(|_| ());
+    let brief = (5..=TABLE_MAX).contains(&table.len()) && table[4] == 2;
+    let refused = |read: Result<(), Refusal>| read.err().map_or(0, |refusal| refusal.number);
+    tally.expect(!brief || matches!(refused(read), 1 | 2), || {
+        format!("version 2 is read: {read:?}")
+    });
+    let given = [
+        oracle::check(table),
+        oracle::depth(table).map(|_| ()),
+        oracle::tidy(table, &mut []).map(|_| ()),
+        oracle::start(table, &mut []),
+    ];
+    tally.expect(read.is_ok() || given == [read; 4], || {
+        format!("{read:?} due, {given:?} given")
+    });
+}
+
+/// A completed program is the one that was read but for scopes and nestings,
+/// its table is accepted, and its own completion.
+fn check_completed(tally: &mut Tally, program: &Program, brief: &[u8]) {
+    let table = encode(program);
+    let checked = oracle::check(&table);
+    tally.expect(checked.is_ok() && table.len() <= TABLE_MAX, || {
+        format!("completed, and {checked:?}: {program:?}")
+    });
+    tally.expect(encode_brief(program) == brief, || {
+        format!("another program is completed: {program:?}")
+    });
+    let again = completed(&bare(program));
+    tally.expect(again.as_ref() == Ok(program), || {
+        format!("{program:?} is completed to {again:?}")
+    });
+}
+
+/// The scopes of a completed program lie in those of another that passes; all
+/// else is the same, nestings too.
+fn check_smallest(tally: &mut Tally, program: &Program, other: &Program) {
+    tally.expect(lies_in(&program.functions, &other.functions), || {
+        format!("{program:?} is no smaller than {other:?}")
+    });
+}
+
+fn lies_in(functions: &[Function], others: &[Function]) -> bool {
+    let mut widened = functions.to_vec();
+    for (function, other) in widened.iter_mut().zip(others) {
+        for (block, other) in function.blocks.iter_mut().zip(&other.blocks) {
+            if block.scope.is_subset(&other.scope) {
+                block.scope.clone_from(&other.scope);
+            }
+        }
+    }
+    widened == others
+}
+
+/// All scopes and nestings of a small program's functions: one is completed
+/// exactly if some pass, and its scopes lie in all of these; and the program is
+/// refused for the first function of which none passes.
+fn check_every(tally: &mut Tally, program: &Program) {
+    let program = bare(program);
+    let functions = &program.functions;
+    let answer = completed(&program);
+    if functions.iter().any(|f| live(f).contains(&false)) {
+        let refused = answer.as_ref().err().map(|refusal| refusal.number);
+        tally.expect(refused == Some(25), || format!("25 due, {answer:?} given"));
+        return;
+    }
+    for (f, function) in functions.iter().enumerate() {
+        let passing = every::passing(&program, f).expect("few are to be tried");
+        if passing.is_empty() {
+            let due = Refusal::fault(26, f, 255);
+            tally.expect(answer == Err(due), || {
+                format!("{due:?} due, {answer:?} given: {program:?}")
+            });
+            tally.event(if f > 0 { LATER_PASSES } else { NONE_PASSES });
+            return;
+        }
+        match passing.len() {
+            _ if function.blocks.len() == 1 => {}
+            1 => tally.event(ONE_PASSES),
+            _ => tally.event(SOME_PASS),
+        }
+        if let Ok(answer) = &answer {
+            let given = std::slice::from_ref(&answer.functions[f]);
+            tally.expect(passing.contains(&given[0]), || {
+                format!("{given:?} does not pass, of {function:?}")
+            });
+            for other in passing {
+                let other = [other];
+                tally.expect(lies_in(given, &other), || {
+                    format!("{given:?} is no smaller than {other:?}")
+                });
+            }
+        }
+    }
+    tally.expect(answer.is_ok(), || {
+        format!("some pass, and {answer:?}: {program:?}")
+    });
 }
 
 /// The most frames that a thread has.

@@ -1,25 +1,30 @@
 //! Tables cut, stretched and mutated, with the refusal where it is known.
 
-use crate::encode::{encode_ranged, fix_length};
+use crate::encode::{encode_as, encode_ranged, fix_length};
 use crate::refusal::Refusal;
 use crate::rng::Rng;
-use crate::table::{Program, TABLE_MAX, TABLE_MIN};
+use crate::table::{Program, Version, TABLE_MIN};
 
 /// Bytes and the refusal they must get, if that is known.
 pub type Judged = (Vec<u8>, Option<Refusal>);
 
 /// A spoiled table of a program.
 pub fn spoiled(rng: &mut Rng, program: &Program) -> Judged {
-    let table: Vec<u8> = encode_ranged(program).iter().map(|r| r.byte).collect();
+    spoiled_as(rng, program, Version::Full)
+}
+
+/// A spoiled table of a version, of a program whose table is not too large.
+pub fn spoiled_as(rng: &mut Rng, program: &Program, version: Version) -> Judged {
+    let table = encode_as(program, version);
     match rng.below(10) {
         0 => cut(rng, table),
         1 => cut_shorter_field(rng, table),
         2 => stretched(rng, table),
-        3 => stretched_longer_field(rng, table),
-        4 => other_version(rng, table),
-        5 | 6 => out_of_range(rng, program),
+        3 => stretched_longer_field(rng, table, version),
+        4 => other_version(rng, table, version),
+        5 | 6 => out_of_range(rng, program, version),
         7 | 8 => mutated(rng, table),
-        _ => noise(rng),
+        _ => noise(rng, version),
     }
 }
 
@@ -50,11 +55,11 @@ pub fn stretched(rng: &mut Rng, mut table: Vec<u8>) -> Judged {
 }
 
 /// A table with more bytes, its length field fitting: they are left over.
-pub fn stretched_longer_field(rng: &mut Rng, mut table: Vec<u8>) -> Judged {
+pub fn stretched_longer_field(rng: &mut Rng, mut table: Vec<u8>, version: Version) -> Judged {
     let length = table.len();
     some_more(rng, &mut table);
     fix_length(&mut table);
-    let refusal = if table.len() > TABLE_MAX {
+    let refusal = if table.len() > version.most() {
         Refusal::plain(1)
     } else {
         Refusal::byte(length)
@@ -63,8 +68,9 @@ pub fn stretched_longer_field(rng: &mut Rng, mut table: Vec<u8>) -> Judged {
 }
 
 /// A table of another version, sometimes with more faults behind.
-pub fn other_version(rng: &mut Rng, mut table: Vec<u8>) -> Judged {
-    table[4] = rng.one_of([0, 2, 9, 255]);
+pub fn other_version(rng: &mut Rng, mut table: Vec<u8>, version: Version) -> Judged {
+    let next = 3 - version.number();
+    table[4] = rng.one_of([0, next, 9, 255]);
     if rng.chance(50) {
         table[5] = 0;
     }
@@ -72,8 +78,8 @@ pub fn other_version(rng: &mut Rng, mut table: Vec<u8>) -> Judged {
 }
 
 /// A table with a byte out of its range, sometimes another after it.
-pub fn out_of_range(rng: &mut Rng, program: &Program) -> Judged {
-    let ranged = encode_ranged(program);
+pub fn out_of_range(rng: &mut Rng, program: &Program, version: Version) -> Judged {
+    let ranged = encode_ranged(program, version);
     let mut table: Vec<u8> = ranged.iter().map(|r| r.byte).collect();
     let places: Vec<usize> = (5..table.len())
         .filter(|&at| ranged[at].min > 0 || ranged[at].max < u8::MAX)
@@ -114,16 +120,16 @@ pub fn mutated(rng: &mut Rng, mut table: Vec<u8>) -> Judged {
 }
 
 /// Random bytes, often with a fitting header, of any length.
-pub fn noise(rng: &mut Rng) -> Judged {
-    let any = rng.below(200);
-    let length = rng.one_of([0, 1, 4, 5, 6, 7, any, any, any, TABLE_MAX, TABLE_MAX + 1]);
+pub fn noise(rng: &mut Rng, version: Version) -> Judged {
+    let (any, most_bytes) = (rng.below(200), version.most());
+    let length = rng.one_of([0, 1, 4, 5, 6, 7, any, any, any, most_bytes, most_bytes + 1]);
     let most = rng.one_of([1, 5, 15, u8::MAX]);
     let mut table: Vec<u8> = (0..length).map(|_| rng.byte(0, most)).collect();
     if length >= TABLE_MIN && rng.chance(80) {
         fix_length(&mut table);
-        table[4] = 1;
+        table[4] = version.number();
         table[5] = rng.byte(1, 16);
     }
-    let refusal = (!(TABLE_MIN..=TABLE_MAX).contains(&length)).then_some(Refusal::plain(1));
+    let refusal = (!(TABLE_MIN..=most_bytes).contains(&length)).then_some(Refusal::plain(1));
     (table, refusal)
 }

@@ -580,8 +580,8 @@ fn roomy_function(rng: &mut Rng, program: &Program) -> Option<usize> {
     rng.pick(&roomy)
 }
 
-/// A dead block of a number of bytes that goes to itself.
-fn filler(rng: &mut Rng, name: Name, size: usize) -> Block {
+/// A block of a number of bytes that goes to itself.
+pub fn filler(rng: &mut Rng, name: Name, size: usize) -> Block {
     let mut statements = Vec::new();
     let mut left = size - 8;
     let mut bound = Temporaries::new();

@@ -4,19 +4,21 @@ use mathlib.Core.Path.{_≡_, refl}
 use borrow.Author.Needs.{needs}
 use Rattle.model.specs.Read as Read
 use Rattle.table.specs.Skips.{skipOf}
-use Rattle.table.specs.Marks.{Kept, functionMarks, marked}
+use Rattle.table.specs.Versions.{headOf}
+use Rattle.table.specs.Marks.{Kept, functionMarksBy, marked}
 use Rattle.table.proofs.Marks.{walks, marks-go, kept-at}
 use Rattle.table.proofs.walk.functions.Statement.{statement}
 use Rattle.table.proofs.walk.functions.Tie as tie
 
 abbrev Inv-loop : tie.InvT-loop
-Inv-loop s at n places₀ left₀ k₀ f₀ places left k f =
-    (skipOf (Read.many Read.function n s at) ≡ skipOf (Read.many Read.function left s k))
-    × (marked Read.function (functionMarks s) n s at 0 places₀ ≡ marked Read.function (functionMarks s) left s k f places)
+Inv-loop s at n brief places₀ left₀ k₀ f₀ places left k f =
+    (skipOf (Read.many (Read.functionBy (headOf brief)) n s at) ≡ skipOf (Read.many (Read.functionBy (headOf brief)) left s k))
+    × (marked (Read.functionBy (headOf brief)) (functionMarksBy (headOf brief) s) n s at 0 places₀
+    ≡ marked (Read.functionBy (headOf brief)) (functionMarksBy (headOf brief) s) left s k f places)
     × (f + left ≤ 16)
 
 abbrev μ-loop : tie.MeasureT-loop
-μ-loop s at n places₀ left₀ k₀ f₀ places left k f = left
+μ-loop s at n brief places₀ left₀ k₀ f₀ places left k f = left
 
 loop-holds : tie.Need-loop-holds Inv-loop μ-loop
 unfolding Kept

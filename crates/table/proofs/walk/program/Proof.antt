@@ -1,6 +1,5 @@
 -- `table::walk::program`: the number of its functions, and they.
 use borrow.Author.Needs.{needs}
-use Rattle.model.specs.Read as Read
 use Rattle.table.proofs.Rules.{found-range}
 use Rattle.table.proofs.Marks.{kept-bad, program-then, program-else, program-kept}
 use Rattle.table.proofs.walk.program.Statement.{statement}
@@ -15,12 +14,12 @@ returns : tie.Need-returns
 returns c =
     let told = c .before .before .before in
     let is = told .before .before .byte .ensures in (
-      program-then Read.head _ _ _ _ _ _ is (told .n .given .1) (c .functions .ensures .0),
-      program-kept Read.head _ _ _ _ _ _ _ _ is (told .n .given .1) (c .functions .ensures .1),
+      program-then _ _ _ _ _ _ _ is (told .n .given .1) (c .functions .ensures .0),
+      program-kept _ _ _ _ _ _ _ _ _ is (told .n .given .1) (c .functions .ensures .1),
     )
 
 returns-2 : tie.Need-returns-2
-returns-2 c = (program-else Read.head _ _ _ _ (c .before .before .before .byte .ensures) (c .before .p .given .1), kept-bad _ _ _)
+returns-2 c = (program-else _ _ _ _ _ (c .before .before .before .byte .ensures) (c .before .p .given .1), kept-bad _ _ _)
 
 pub program-spec : {M : Type 1} → statement M
 program-spec =

@@ -1,0 +1,2 @@
+-- What the writers of a completed table and the call itself leave.
+pub mod Writes

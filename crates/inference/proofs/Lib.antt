@@ -1,0 +1,11 @@
+pub mod Rounds
+pub mod Filled
+pub mod Marks
+pub mod ScopesSets
+pub mod ScopesNeeds
+pub mod ScopesPassing
+pub mod Scopes
+pub mod Held
+pub mod Judged
+pub mod Theorem
+pub mod Rows

@@ -1,0 +1,3 @@
+-- The scoping of each block of a function, in words.
+pub mod Words
+pub mod Changes
