@@ -8,6 +8,7 @@ use lib.ListN.{length, getD, getElem?, length-map}
 use Rattle.model.specs.Lists.{concat}
 use Rattle.model.specs.Syntax.{Function, Program}
 use Rattle.model.specs.Write as Write
+use Rattle.model.proofs.Facts.{map-at}
 use Rattle.model.proofs.Writing.{HeldFunction, law-bare, law-functionBy}
 use Rattle.code.specs.Bytes.{past}
 use Rattle.places.specs.declared.Place.{Place}
@@ -17,7 +18,6 @@ use Rattle.puts.specs.Puts.{Puts, stretch}
 use Rattle.puts.proofs.Laws as Puts-laws
 use Rattle.puts.proofs.Laws.{then, same}
 use Rattle.numbering.specs.Mentions.{of}
-use Rattle.numbering.proofs.Lists.{map-at}
 use Rattle.inference.specs.Filled.{Scoping, filled}
 use Rattle.inference.specs.Infer.{Mark, nestingOf, marks, scopes, infer, completedFunction, completed}
 use Rattle.inference.proofs.Filled.{filled-length}

@@ -1,7 +1,7 @@
 -- The frame counts among a pool's words: each is the number of frames of a thread, or 0.
 use Prim.Native.Nat.{ℕ, zero, suc, _+_, _*_, _-_, _≤_}
 use mathlib.Core.Path.{_≡_}
-use mathlib.Core.List.{List, [], _∷_, _++_, map, append-assoc}
+use mathlib.Core.List.{[], _∷_, _++_, map, append-assoc}
 use native.Mathlib.Omega.{arith}
 use lib.IntN.{pos}
 use lib.ListN.{length, getD, replicate, List·getD-append}

@@ -7,3 +7,6 @@ pub mod Macros
 pub mod Sessions
 pub mod Roomy
 pub mod Archive
+pub mod Places
+pub mod Singly
+pub mod Children

@@ -5,3 +5,4 @@ pub mod Laws
 pub mod Sessions
 pub mod Roomy
 pub mod Archive
+pub mod Children

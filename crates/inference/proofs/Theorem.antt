@@ -19,10 +19,9 @@ use Rattle.model.specs.Check.{judge}
 use Rattle.model.specs.Calls.{read, check}
 use Rattle.model.specs.Write as Write
 use Rattle.model.specs.Write.{HoldsFunction}
-use Rattle.model.proofs.Facts.{none-some, map-some, given-injective, refused-given, each-both, each-at, at-below}
+use Rattle.model.proofs.Facts.{none-some, map-some, given-injective, refused-given, each-both, each-at, at-below, map-at}
 use Rattle.model.proofs.Guarantees.{brief-limits}
 use Rattle.model.proofs.Writing.{HeldFunction, brief-written}
-use Rattle.numbering.proofs.Lists.{map-at}
 use Rattle.inference.specs.Filled.{Scoping, Holds, filled, eachFilled, filledAll}
 use Rattle.inference.specs.Infer.{marks, nestingOf, infer, completedFunction, completed}
 use Rattle.inference.specs.Complete as Complete

@@ -4,12 +4,12 @@ use Prim.Native.Nat.{ℕ, zero, suc, _+_, _-_, _≤_, _<_, zero-le, suc-le-suc}
 use mathlib.Core.Path.{_≡_, refl, sym, _∙_, ap, subst}
 use mathlib.Core.Bool.{Bool, true, false, not, _&&_, _||_, true≢false, false≢true}
 use mathlib.Core.Option.{Option, none, some, Option·map}
-use mathlib.Core.List.{List, [], _∷_, _++_}
+use mathlib.Core.List.{List, [], _∷_, _++_, map}
 use native.Mathlib.Nat.{zero-add, suc-add, not-suc-le-zero, le-of-suc-le-suc}
 use native.Mathlib.Numerals.{add-one}
 use native.Mathlib.Omega.{arith}
 use lib.Dec.{eqb}
-use lib.ListN.{length, getD, getElem?, drop, replicate}
+use lib.ListN.{length, getD, getElem?, take, drop, replicate}
 use lib.Seq.{drop-nil}
 use Rattle.model.specs.Answers.{Refusal, Answer, outcome}
 use Rattle.model.specs.Lists.{all, Each, equal, Snoc, snoc, unsnoc}
@@ -89,7 +89,13 @@ pub map-some : {A B : Type 0} (f : A → B) (o : Option A) {b : B} → Option·m
 map-some f none e = none-some e
 map-some f (some a) e = (a, refl, some-injective e)
 
--- Each: weakened, joined, appended, and as a test
+-- what stands at an index of what f makes of a list
+pub map-at : {A B : Type 0} (f : A → B) (xs : List A) (i : ℕ) → getElem? (map f xs) i ≡ Option·map f (getElem? xs i)
+map-at f [] i = refl
+map-at f (x ∷ xs) zero = refl
+map-at f (x ∷ xs) (suc i) = map-at f xs i
+
+-- Each: weakened, joined, appended, of the first n, and as a test
 module _ {A : Type 0} where
   pub each-map : {P Q : A → Type 0} → ((x : A) → P x → Q x) → (xs : List A) → Each P xs → Each Q xs
   each-map f [] h = tt
@@ -110,6 +116,11 @@ module _ {A : Type 0} where
   pub each-right : (P : A → Type 0) (xs ys : List A) → Each P (xs ++ ys) → Each P ys
   each-right P [] ys h = h
   each-right P (x ∷ xs) ys h = each-right P xs ys (h .1)
+
+  pub each-take : (P : A → Type 0) (n : ℕ) (xs : List A) → Each P xs → Each P (take n xs)
+  each-take P zero xs h = tt
+  each-take P (suc n) [] h = tt
+  each-take P (suc n) (x ∷ xs) h = (h .0, each-take P n xs (h .1))
 
   pub each-at : (P : A → Type 0) (xs : List A) (i : ℕ) {x : A} → Each P xs → getElem? xs i ≡ some x → P x
   each-at P [] i h e = none-some e

@@ -309,13 +309,22 @@ tree =
     ∷ 0x00 ∷
     0x04 ∷ 0x00 ∷ 0x01 ∷ 0x04 ∷ 0x02 ∷ 0x01 ∷ 0x02 ∷ 0x01 ∷ 0x03 ∷ 0x03 ∷ 0x01 ∷ 0x04 ∷ []
 
--- block 1 is nested under a and b, where spawn call 1 has an argument outside the scope, and 2 is missing
-abbrev nest : ℕ → ℕ → List ℕ
-nest a b =
+-- block 1 has this head of six bytes; spawn call 1 has the argument 0
+abbrev headed : List ℕ → List ℕ
+headed H =
     0x00 ∷ 0x00 ∷ 0x00 ∷ 0x2B ∷ 0x01 ∷ 0x02 ∷ 0x00 ∷ 0x00 ∷ 0x02 ∷ 0x02 ∷ 0x00 ∷ 0x00 ∷ 0x01 ∷ 0x01 ∷ 0x00 ∷ 0x00 ∷ 0x00 ∷ 0x00 ∷ 0x00
     ∷ 0x00 ∷
-    0x03 ∷ 0x00 ∷ 0x00 ∷ 0x00 ∷ 0x00 ∷ 0x02 ∷ a ∷ b ∷ 0x00 ∷ 0x05 ∷ 0x00 ∷ 0x00 ∷ 0x01 ∷ 0x00 ∷ 0x01 ∷ 0x00 ∷ 0x00 ∷ 0x00 ∷ 0x01 ∷ 0x00 ∷
-    0x00 ∷ 0x03 ∷ 0x00 ∷ []
+    0x03 ∷ 0x00 ∷
+    (H ++
+    (0x00 ∷ 0x05 ∷ 0x00 ∷ 0x00 ∷ 0x01 ∷ 0x00 ∷ 0x01 ∷ 0x00 ∷ 0x00 ∷ 0x00 ∷ 0x01 ∷ 0x00 ∷ 0x00 ∷ 0x03 ∷ 0x00 ∷ []))
+
+-- block 1 is nested under a and b, where spawn call 1 has an argument outside the scope, and 2 is missing
+abbrev nest : ℕ → ℕ → List ℕ
+nest a b = headed (0x00 ∷ 0x00 ∷ 0x00 ∷ 0x02 ∷ a ∷ b ∷ [])
+
+-- block 1 is nested under spawn call 1, whose argument is the block's own parameter, and not in its scope
+abbrev nestedParameter : List ℕ
+nestedParameter = headed (0x01 ∷ 0x00 ∷ 0x00 ∷ 0x00 ∷ 0x01 ∷ 0x01 ∷ [])
 
 abbrev rows : List Row
 rows =
@@ -377,10 +386,11 @@ rows =
     Row.played inner (step 0 ∷ step 0 ∷ promote 0 ∷ step 1 ∷ promote 0 ∷ step 1 ∷ step 2 ∷ step 0 ∷ step 0 ∷ [])
     (makes No.spork ∷ makes No.spork ∷ makes No.promote ∷ makes No.goto ∷ makes No.promote ∷ makes No.stmt ∷ makes No.stmt
     ∷ makes No.prom ∷ makes No.prom ∷ []) (some (pos 20 ∷ pos 10 ∷ [])) ∷
-    -- a bad block that nothing reaches; a nesting's entries, one by one; a repeated parameter keeps the last
+    -- a bad block that nothing reaches; a nesting's entries, one by one, and not among the parameters; a repeated parameter keeps the last
     Row.checked unreached (at No.unbound 0 1) ∷
     Row.checked (nest 1 2) (at No.scope 0 1) ∷
     Row.checked (nest 2 1) (at No.missing 0 1) ∷
+    Row.checked nestedParameter (at No.scope 0 1) ∷
     Row.played same (step 0 ∷ step 0 ∷ step 0 ∷ []) (makes No.stmt ∷ makes No.stmt ∷ makes No.goto ∷ []) (some (pos 2 ∷ [])) ∷
     -- a recursive program, with promotions by a thread and by its child
     Row.played tree
@@ -501,7 +511,7 @@ right = (
                                                                                           refl,
                                                                                           (
                                                                                             refl,
-                                                                                            tt,
+                                                                                            (refl, tt),
                                                                                           ),
                                                                                         ),
                                                                                       ),

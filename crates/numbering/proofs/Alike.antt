@@ -9,7 +9,7 @@ use lib.Dec.{eqb}
 use lib.ListN.{getElem?}
 use Rattle.model.specs.Lists.{Each, concat}
 use Rattle.model.specs.Syntax.{Block, SpawnCall, Function, Program, calledBy}
-use Rattle.model.proofs.Facts.{each-map, each-append, each-at, eqb-true, eqb-false, eq-eqb, ne-eqb}
+use Rattle.model.proofs.Facts.{each-map, each-append, each-at, eqb-true, eqb-false, eq-eqb, ne-eqb, map-at}
 use Rattle.numbering.specs.Renamed as Renamed
 use Rattle.numbering.specs.Renamed.{Names}
 use Rattle.numbering.specs.Mentions.{of, targetsOf, targetsIn, spawnsOf, spawnsIn, spawned, spawnedBy, functionsOf, functionsIn}
@@ -17,7 +17,7 @@ use Rattle.numbering.specs.Renumbers.{Numbering, names, FunctionKept, Bl
 use Rattle.numbering.specs.Tidy.{member, mention, mentions, onward, grown, keptBlocks, keptSpawns, mentionedIn, keptFunctions, place}
 use Rattle.numbering.specs.Tidy.{before, picked, namesIn, tidyFunction, tidied}
 use Rattle.numbering.proofs.Agreeing.{block-agrees, spawn-agrees, then, block-then, spawn-then}
-use Rattle.numbering.proofs.Lists.{concat-each, mention-each, mentions-each, grown-each, map-at}
+use Rattle.numbering.proofs.Lists.{concat-each, mention-each, mentions-each, grown-each}
 use Rattle.numbering.proofs.Kept.{of-some}
 use Rattle.numbering.proofs.Mentioned.{targets-renamed, spawns-renamed, calls-renamed}
 

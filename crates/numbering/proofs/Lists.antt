@@ -10,7 +10,7 @@ use native.Mathlib.Omega.{arith}
 use lib.Dec.{eqb, eqb·suc-suc, eqb·suc-zero}
 use lib.ListN.{length, getElem?, drop, replicate, length-append, length-map, length-replicate, drop-of-length-le}
 use Rattle.model.specs.Lists.{Each, concat}
-use Rattle.model.proofs.Facts.{true-false, none-some, some-injective, left-or, right-or, or-right, each-append, each-at}
+use Rattle.model.proofs.Facts.{true-false, none-some, some-injective, left-or, right-or, or-right, each-append, each-at, map-at}
 use Rattle.model.proofs.Facts.{eqb-true, eqb-false, eq-eqb, ne-eqb, at-below, below-at, at-first, drop-some, drop-none}
 use Rattle.numbering.specs.Tidy.{member, Distinct, mention, mentions, onward, grown, place, before, picked}
 
@@ -302,12 +302,6 @@ module _ {A : Type 0} (xs : List A) where
   picked-at (j ∷ ī) (suc n) h e =
       let (x, p) = below-at xs j (h .0) in
       rw p (picked-at ī n (h .1) e)
-
--- what stands at an index of what g makes of a list
-pub map-at : {A B : Type 0} (g : A → B) (xs : List A) (i : ℕ) → getElem? (map g xs) i ≡ Option·map g (getElem? xs i)
-map-at g [] i = refl
-map-at g (x ∷ xs) zero = refl
-map-at g (x ∷ xs) (suc i) = map-at g xs i
 
 -- what g makes of what is picked: it stands at its number's place, and nothing else is there
 module _ {A B : Type 0} (g : A → B) (xs : List A) (ī : List ℕ) (below : Each (λ i. i < length xs) ī) where

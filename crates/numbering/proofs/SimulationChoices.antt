@@ -16,11 +16,10 @@ use Rattle.model.specs.Frames.{_>>=_, lookAll, deque}
 use Rattle.model.specs.Rules
 use Rattle.model.specs.Rules.{Act, act, Result, Promotion, ended, choice, mainValues}
 use Rattle.model.specs.Calls.{Choice, Ran, oneMore, goOn, run}
-use Rattle.model.proofs.Facts.{each-at}
+use Rattle.model.proofs.Facts.{each-at, map-at}
 use Rattle.model.proofs.Kept.{OnSome}
 use Rattle.numbering.specs.Renamed as Renamed
 use Rattle.numbering.specs.Renumbers.{Numbering, BlockKept, SpawnKept, Copies, renamedFrame, renamedThread, renamedPool}
-use Rattle.numbering.proofs.Lists.{map-at}
 use Rattle.numbering.proofs.SimulationStates.{KeptFrame, KeptThread, KeptPool}
 use Rattle.numbering.proofs.SimulationStates.{Follows, FollowsIf, follows-bind}
 use Rattle.numbering.proofs.SimulationActs.{renamedAct, KeptAct, lookAll-renamed, function-before, function-after}

@@ -1,5 +1,5 @@
 -- Stores into a frame's words: the words of the changed frame.
-use Prim.Native.Nat.{ℕ, zero, suc, _+_, _*_, _%_, _^_, _≤_, _<_}
+use Prim.Native.Nat.{ℕ, suc, _+_, _*_, _%_, _^_, _≤_, _<_}
 use mathlib.Core.Path.{_≡_, refl, sym, ap, _∙_}
 use mathlib.Core.List.{List, [], _∷_, _++_, map}
 use native.Mathlib.Omega.{arith}
@@ -16,7 +16,7 @@ use Rattle.model.specs.Sets.{below, with}
 use Rattle.model.specs.Pool.{Frame, mostCalls, temporaries, functionAt, blockAt, doneAt, boundAt, openedAt, promotedAt, callsAt, valuesAt}
 use Rattle.model.specs.Pool.{frameWords, begin, wordsOfFrame}
 use Rattle.model.specs.Frames.{goTo, bind, deque}
-use Rattle.model.proofs.Facts.{each-append}
+use Rattle.model.proofs.Facts.{each-append, each-take}
 use Rattle.model.proofs.Members.{with-lt}
 use Rattle.model.specs.Valid.{FrameFits}
 use Rattle.model.proofs.Words.{length-pad, frame-length, empty-fits}
@@ -184,11 +184,6 @@ module _ {k : Frame} (s : Small k) where
         calls = p;
         fits = record { calls = q; values = s .fits .values };
       }
-
-each-take : {A : Type 0} (Q : A → Type 0) (n : ℕ) (xs : List A) → Each Q xs → Each Q (take n xs)
-each-take Q zero xs h = tt
-each-take Q (suc n) [] h = tt
-each-take Q (suc n) (x ∷ xs) h = (h .0, each-take Q n xs (h .1))
 
 pub bound-fits : (Γ x : ℕ) → Γ < 65536 → x < temporaries → SFits w32 (pos (bitOr Γ (1 * 2 ^ x % 65536)))
 bound-fits Γ x h p =

@@ -20,7 +20,7 @@ use Rattle.model.specs.Pool.{Frame, functionOf, mostCalls}
 use Rattle.model.specs.Frames.{when, bind, goTo, deque, enter}
 use Rattle.model.specs.Rules.{Act, by, acts, stmt, goto, branch, if, call, return, spork, closing, spoin, transfer, coming, act}
 use Rattle.model.proofs.Facts.{map-some, each-at, drop-some, drop-none, unsnoc-snoc, same-equal, ltb-true, ltb-false, lt-ltb}
-use Rattle.model.proofs.Sets.{Part, part-refl, part-more, part-with, part-each}
+use Rattle.model.proofs.Sets.{Part, part-refl, part-trans, part-more, part-with, part-each}
 use Rattle.safety.proofs.Typing.{Opens, Runs, promise, own}
 use Rattle.safety.proofs.Owed.{owed-append, owed-nil, owed-last, promise-is}
 use Rattle.safety.proofs.Frames.{looked, eval-bound, reopen, cont-opens, block-of, Entered, enters, callee-begins}
@@ -167,6 +167,7 @@ module _ {P : Program} (W : WF-prog P) (L : Limits P) where
         opens = reopen k′ refl refl (part-more (k .bound) (s .target)) (r .opens);
         scope = with (r .scope) (s .target);
         bound = part-with (s .target) (r .bound);
+        within = part-trans (r .within) (part-more (r .scope) (s .target));
         code = c .2;
       }
       in

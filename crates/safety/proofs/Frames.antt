@@ -129,7 +129,14 @@ module _ {P : Program} (W : WF-prog P) where
       let B = o .block in
       let Γ = withAll (B .head .scope) (B .head .parameters) in
       let w = wf-block (k .function) (k .block) (o .function) (o .there) in
-      record { takes = r; opens = o; scope = Γ; bound = p; code = rw (d, ← o .nests) (w .code) }
+      record {
+        takes = r;
+        opens = o;
+        scope = Γ;
+        bound = p;
+        within = part-all (B .head .scope) (B .head .parameters);
+        code = rw (d, ← o .nests) (w .code);
+      }
 
   pub record Entered (F : Function) (k : Frame) (b : ℕ) (v̄ : List ℤ) : Type 0 where
     pub bound : ℕ

@@ -2,7 +2,7 @@
 use Prim.Native.Nat.{ℕ, zero, suc, _+_, _-_, _≤_}
 use mathlib.Core.Path.{_≡_, refl, _∙_, ap}
 use mathlib.Core.Option.{Option, some}
-use mathlib.Core.List.{List, [], _∷_, _++_, map, reverse-append}
+use mathlib.Core.List.{List, [], _∷_, _++_, map-append, reverse-append}
 use native.Mathlib.Numerals.{add-one}
 use native.Mathlib.Omega.{arith}
 use lib.ListN.{length, getElem?, take, length-append}
@@ -24,10 +24,6 @@ module _ {A : Type 0} where
   pub last-at : (xs : List A) (x : A) → getElem? (xs ++ (x ∷ [])) (length xs) ≡ some x
   last-at [] x = refl
   last-at (y ∷ xs) x = last-at xs x
-
-map-append : {A B : Type 0} (f : A → B) (xs ys : List A) → map f (xs ++ ys) ≡ map f xs ++ map f ys
-map-append f [] ys = refl
-map-append {B = B} f (x ∷ xs) ys = ap {B = List B} (λ l. f x ∷ l) (map-append f xs ys)
 
 -- one more promoted call, calls behind the promoted ones, and none
 pub owed-more : (f : ℕ → ℕ) (n : ℕ) (ρ : List ℕ) {π : ℕ} → getElem? ρ n ≡ some π → owed f (n + 1) ρ ≡ f π ∷ owed f n ρ

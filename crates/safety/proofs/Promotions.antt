@@ -86,7 +86,15 @@ module _ (P : Program) where
 
   runs-kept : {F : Function} {k : Frame} (n : ℕ) → Runs P F k → Runs P F (deque k (k .calls) n)
   unfolding deque
-  runs-kept n y = record { takes = y .takes; opens = opens-kept n (y .opens); scope = y .scope; bound = y .bound; code = y .code }
+  runs-kept n y =
+      record {
+        takes = y .takes;
+        opens = opens-kept n (y .opens);
+        scope = y .scope;
+        bound = y .bound;
+        within = y .within;
+        code = y .code;
+      }
 
   -- the frame that holds the call is typed
   record Held (k : Frame) : Type 0 where

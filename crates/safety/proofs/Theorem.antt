@@ -22,7 +22,7 @@ use Rattle.safety.proofs.Words.{Table, Good, good-lent, good-after, goo
 use Rattle.safety.proofs.Schedules.{finally-kept, calls-each}
 
 -- the table that the check accepts
-accepted : (s : List ℕ) → check s ≡ Answer.given tt → Table s
+pub accepted : (s : List ℕ) → check s ≡ Answer.given tt → Table s
 accepted s h =
     let r = check-wf s h in
     record { program = r .0; reads = r .1; formed = r .2 }
@@ -52,7 +52,7 @@ good-finally : {s : List ℕ} (T : Table s) {ws : List ℤ} (cs : List Call) →
 good-finally {s} T cs g = finally-kept s (Good T) (λ _ g. good-after g) cs g
 
 module _ {s : List ℕ} (T : Table s) (ws : List ℤ) (n : length ws ≡ poolWords) where
-  good-started : Good T (start s ws .after)
+  pub good-started : Good T (start s ws .after)
   good-started = rw (starts s ws (T .reads) n) (good-start T)
 
   safe : (cs : List Call) → Safe s (start s ws .after) cs

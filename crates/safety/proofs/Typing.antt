@@ -20,12 +20,13 @@ pub record Opens (P : Program) (F : Function) (k : Frame) (b r : ℕ) : Type 0 w
   pub nests : block .head .nesting ≡ k .calls
   pub scoped : Part (block .head .scope) (k .bound)
 
--- a newest frame of F: some set is bound, and under it the rest of the block's code is well formed
+-- a newest frame of F: some set is bound, the block's scope lies in it, and under it the rest of the block's code is well formed
 pub record Runs (P : Program) (F : Function) (k : Frame) : Type 0 where
   pub takes : ℕ
   pub opens : Opens P F k (k .block) takes
   pub scope : ℕ
   pub bound : Part scope (k .bound)
+  pub within : Part (opens .block .head .scope) scope
   pub code : WF-code (env P F) scope (k .calls) (drop (k .done) (opens .block .code)) (opens .block .transfer)
 
 -- callers, newest first: the newest waits for n values, each next one for what the one above it returns, and the last one

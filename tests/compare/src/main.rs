@@ -2,10 +2,11 @@
 //! the second implementation and compares the answers, refusals with their
 //! places, and what is written; asserts the laws of every number answered and
 //! of the memory lent; and asserts demand 3 of the library, what depths say,
-//! and that tidy tables answer as their tables, on random runs of accepted
-//! tables. Tables of version 2 are completed, whose completions are known where
-//! their making tells them. Stored tables are tidied and completed too, and a
-//! pool is filled to see where each frame begins.
+//! that a child's arguments are those of its spork, and that tidy tables answer
+//! as their tables, on random runs of accepted tables. Tables of version 2 are
+//! completed, whose completions are known where their making tells them. Stored
+//! tables are tidied and completed too, and a pool is filled to see where each
+//! frame begins.
 //!
 //! `compare SEED COUNT`; the last line is `compare: N passed, M failed`.
 
@@ -14,6 +15,7 @@ mod laws;
 mod lent;
 mod library;
 mod runs;
+mod sporks;
 mod starts;
 mod twins;
 
@@ -22,6 +24,7 @@ use oracle::encode::encode;
 use oracle::gen::brief::{brief, Kind as BriefKind};
 use oracle::gen::calls::{self, Calling};
 use oracle::gen::faults::{self, Kind};
+use oracle::gen::loops::looping;
 use oracle::gen::{programs, scenario, Source, NOTES};
 use oracle::machine::{differences, tables_differ, Machine};
 use oracle::rng::Rng;
@@ -53,6 +56,8 @@ fn main() -> ExitCode {
         runs::check_run(&mut tally, &library, &mut rng, &program);
         note_program(&mut tally, &program);
         let calling = compare_calls(&mut tally, &library, &mut rng);
+        let looped = looping(&mut rng);
+        runs::check_run(&mut tally, &library, &mut rng, &looped);
         let one = if round.is_multiple_of(2) {
             program
         } else {
@@ -82,6 +87,7 @@ fn events() -> Vec<String> {
     events.extend(NOTES.map(String::from));
     let others = [FULL_SIZE, PAIR, LONG, starts::EVENT];
     events.extend(laws::events());
+    events.extend(sporks::events());
     events.extend(others.into_iter().chain(runs::EVENTS).map(String::from));
     events
 }

@@ -1,8 +1,10 @@
 //! Demand 3 of a machine's own functions, as `crates/host/specs/Sessions.antt`
-//! states it, and what the depth of a table says beside it, on random runs of
-//! accepted tables. The second implementation chooses and makes the same run,
-//! and every answer is compared with its own.
+//! states it, what the depth of a table says beside it, and that a child's
+//! arguments are those of its spork, on random runs of accepted tables. The
+//! second implementation chooses and makes the same run, and every answer is
+//! compared with its own.
 
+use crate::sporks::{Put, Sporks};
 use oracle::encode::encode;
 use oracle::gen::schedules::{guided_choice, guided_schedule, Choice, Order, Policy};
 use oracle::machine::Machine;
@@ -41,15 +43,19 @@ struct Run<'a> {
     pool: Pool,
     /// The table's depth, where it has one.
     depth: Option<u8>,
+    /// Which sporks opened the open calls.
+    sporks: Sporks,
 }
 
 /// Starts a run and puts some lists of choices to it, refused ones among
 /// them. The empty list is one.
 pub fn check_run(tally: &mut Tally, machine: &dyn Machine, rng: &mut Rng, program: &Program) {
+    let table = encode(program);
     let mut run = Run {
         machine,
         program,
-        table: encode(program),
+        sporks: Sporks::new(&table),
+        table,
         words: (0..POOL_WORDS).map(|_| rng.bits() as i32).collect(),
         pool: Pool::start(),
         depth: None,
@@ -89,7 +95,7 @@ pub fn check_run(tally: &mut Tally, machine: &dyn Machine, rng: &mut Rng, progra
 fn policy(rng: &mut Rng) -> Policy {
     Policy {
         blind: rng.one_of([2, 10, 30]),
-        promote: rng.one_of([10, 30, 60, 90]),
+        promote: rng.one_of([2, 10, 30, 60, 90]),
         order: rng.one_of([Order::First, Order::Last, Order::Any]),
     }
 }
@@ -143,11 +149,9 @@ impl Run<'_> {
             left -= 1;
             let choice = guided_choice(rng, self.program, &self.pool, policy);
             let choice = self.within(choice);
-            let due = self.due(tally, choice);
-            let answer = self
-                .machine
-                .choose(&self.table, &mut self.words, choice.0, choice.1);
-            check_same(tally, choice, answer, due);
+            let mut words = self.words.clone();
+            let answer = self.put(tally, choice, &mut words, false);
+            self.words = words;
             self.check_answer(tally, choice, answer);
             if answer.is_ok() && refused {
                 tally.event(REFUSED);
@@ -162,13 +166,15 @@ impl Run<'_> {
         }
     }
 
-    /// Choices as one schedule, up to and with the first refused.
+    /// Choices as one schedule, up to and with the first refused; and one by
+    /// one on a copy, which must end in the same words.
     fn schedule(&mut self, tally: &mut Tally, rng: &mut Rng, length: usize) {
         let refused = rng.chance(50);
         let choices: Vec<Choice> = guided_schedule(rng, self.program, &self.pool, length, refused)
             .into_iter()
             .map(|choice| self.within(choice))
             .collect();
+        let mut words = self.words.clone();
         let mut made = u64::MAX;
         let answer = self
             .machine
@@ -176,12 +182,15 @@ impl Run<'_> {
         let mut due_made = 0;
         let mut due = Ok(());
         for &choice in &choices {
-            due = self.due(tally, choice).map(|_| ());
+            due = self.put(tally, choice, &mut words, true).map(|_| ());
             if due.is_err() {
                 break;
             }
             due_made += 1;
         }
+        tally.expect(words == self.words, || {
+            format!("a schedule leaves other words than {choices:?}")
+        });
         tally.expect((made, answer) == (due_made, due), || {
             format!("{made} made, {answer:?} given; {due_made}, {due:?} is right")
         });
@@ -198,10 +207,30 @@ impl Run<'_> {
         (kind.min(widest), thread.min(widest))
     }
 
-    /// Makes a choice in the second implementation's pool.
-    fn due(&mut self, tally: &mut Tally, choice: Choice) -> Result<u8, Refusal> {
+    /// Puts a choice of the run to words and to the second implementation's
+    /// pool, and follows it.
+    fn put(
+        &mut self,
+        tally: &mut Tally,
+        choice: Choice,
+        words: &mut [i32],
+        scheduled: bool,
+    ) -> Result<u8, Refusal> {
         check_join(tally, self.program, &mut self.pool, choice);
-        choose(self.program, &mut self.pool, choice)
+        let number = Some(self.sporks.next());
+        let due = choose(self.program, &mut self.pool, choice, number);
+        let before = words.to_vec();
+        let answer = self.machine.choose(&self.table, words, choice.0, choice.1);
+        check_same(tally, choice, answer, due);
+        let put = Put {
+            choice,
+            answer,
+            before: &before,
+            after: words,
+            scheduled,
+        };
+        self.sporks.follow(tally, &put, &self.pool);
+        answer
     }
 
     /// A choice of a run makes a rule of its kind, or gets one of 14 to 18, 20
@@ -294,15 +323,20 @@ impl Run<'_> {
             .machine
             .choose(&self.table, &mut self.words.clone(), STEP, thread);
         let choice = (STEP, thread);
-        let due = choose(self.program, &mut self.pool.clone(), choice);
+        let due = choose(self.program, &mut self.pool.clone(), choice, None);
         check_same(tally, choice, answer, due);
         answer
     }
 }
 
-/// A choice in the second implementation's pool.
-fn choose(program: &Program, pool: &mut Pool, choice: Choice) -> Result<u8, Refusal> {
-    rules::choose(program, pool, choice.0, choice.1)
+/// A choice in the second implementation's pool, which may have a number.
+fn choose(
+    program: &Program,
+    pool: &mut Pool,
+    choice: Choice,
+    number: Option<u64>,
+) -> Result<u8, Refusal> {
+    rules::choose_as(program, pool, choice.0, choice.1, number)
         .map(Rule::number)
         .map_err(Refusal::plain)
 }

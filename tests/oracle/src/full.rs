@@ -2,20 +2,15 @@
 //! fresh one. Where each frame begins is seen in its words.
 
 use crate::gen::schedules::Choice;
-use crate::pool::{FRAME_WORDS, MAX_FRAMES, MAX_THREADS, POOL_WORDS, THREAD_HEAD};
+use crate::pool::{
+    BLOCK, BOUND, FRAME_WORDS, FUNCTION, MAX_FRAMES, MAX_THREADS, OPEN, POOL_WORDS, PROMOTED,
+    THREAD_HEAD, VALUES,
+};
 use crate::rules::{PROMOTE, STEP};
 use crate::table::{
     Atom, Block, Expression, Function, Name, Program, SpawnCall, Statement, Temporary, Transfer,
 };
 use std::iter::repeat_n;
-
-/// The words of a frame that are set here, by their places within it.
-const FUNCTION: usize = 0;
-const BLOCK: usize = 1;
-const BOUND: usize = 3;
-const OPEN: usize = 4;
-const PROMOTED: usize = 5;
-const VALUES: usize = 10;
 
 /// Functions 0 to 7 set temporary 0 to their own number, open a spawn call with
 /// it as argument, and call the next; functions 8 to 15 call the next with

@@ -5,6 +5,7 @@ pub mod brief;
 pub mod bytes;
 pub mod calls;
 pub mod faults;
+pub mod loops;
 pub mod pools;
 pub mod programs;
 pub mod scenario;

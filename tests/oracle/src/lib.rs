@@ -13,6 +13,7 @@ pub mod full;
 pub mod gen;
 pub mod graph;
 pub mod machine;
+pub mod openers;
 pub mod pool;
 pub mod refusal;
 pub mod rng;

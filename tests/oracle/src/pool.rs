@@ -15,6 +15,15 @@ pub const MAX_THREADS: usize = 8;
 pub const MAX_FRAMES: usize = 8;
 pub const MAX_CALLS: usize = 4;
 pub const TEMPORARIES: usize = 16;
+/// The words of a frame, by their places within it.
+pub const FUNCTION: usize = 0;
+pub const BLOCK: usize = 1;
+pub const DONE: usize = 2;
+pub const BOUND: usize = 3;
+pub const OPEN: usize = 4;
+pub const PROMOTED: usize = 5;
+pub const CALLS: usize = 6;
+pub const VALUES: usize = 10;
 
 /// Where a thread begins.
 pub const fn thread_start(thread: usize) -> usize {
@@ -36,12 +45,21 @@ pub struct Pool {
 }
 
 /// A thread and its children.
-#[derive(Clone, Debug, PartialEq, Eq)]
+#[derive(Clone, Debug, Eq)]
 pub struct Thread {
     /// The call stack, oldest first, never empty.
     pub frames: Vec<Frame>,
     /// One child for each promoted call, oldest first.
     pub children: Vec<Thread>,
+    /// Of a child: what opened its call, where that is known.
+    pub opened: Option<Opened>,
+}
+
+/// Threads are the same whatever opened their calls.
+impl PartialEq for Thread {
+    fn eq(&self, other: &Self) -> bool {
+        self.frames == other.frames && self.children == other.children
+    }
 }
 
 #[derive(Clone, Debug, PartialEq, Eq)]
@@ -53,9 +71,44 @@ pub struct Frame {
     pub done: usize,
     pub temporaries: Temporaries,
     /// The open spawn calls, oldest first.
-    pub calls: Vec<usize>,
+    pub calls: Vec<OpenCall>,
     /// How many of the open calls are promoted; they are the oldest.
     pub promoted: usize,
+}
+
+/// An open spawn call of a frame.
+#[derive(Clone, Debug, Eq)]
+pub struct OpenCall {
+    /// Its number in the frame's function.
+    pub spawn: usize,
+    /// What opened it, where that is known.
+    pub opened: Option<Opened>,
+}
+
+/// A spork that opened a call.
+#[derive(Clone, Debug, PartialEq, Eq)]
+pub struct Opened {
+    /// The number of the choice.
+    pub choice: u64,
+    /// The values that the call's arguments had, where all were bound.
+    pub arguments: Option<Vec<i32>>,
+}
+
+impl OpenCall {
+    /// An open call of which nothing else is known.
+    pub fn plain(spawn: usize) -> Self {
+        OpenCall {
+            spawn,
+            opened: None,
+        }
+    }
+}
+
+/// Open calls are the same whatever opened them.
+impl PartialEq for OpenCall {
+    fn eq(&self, other: &Self) -> bool {
+        self.spawn == other.spawn
+    }
 }
 
 impl Frame {
@@ -87,6 +140,7 @@ impl Thread {
         Thread {
             frames: vec![Frame::entering(function, arguments)],
             children: Vec::new(),
+            opened: None,
         }
     }
 
@@ -201,7 +255,7 @@ fn frame_words(frame: &Frame) -> Vec<i32> {
         word(frame.calls.len()),
         word(frame.promoted),
     ];
-    let calls = frame.calls.iter().map(|&call| word(call)).collect();
+    let calls = frame.calls.iter().map(|call| word(call.spawn)).collect();
     words.extend(padded(calls, MAX_CALLS));
     words.extend(frame.temporaries.iter().map(|value| value.unwrap_or(0)));
     words
@@ -252,7 +306,11 @@ fn grow_tree(stacks: &mut impl Iterator<Item = Vec<Frame>>) -> Option<Thread> {
         children.push(grow_tree(stacks)?);
     }
     children.reverse();
-    Some(Thread { frames, children })
+    Some(Thread {
+        frames,
+        children,
+        opened: None,
+    })
 }
 
 fn parse_stack(program: &Program, words: &[i32]) -> Option<Vec<Frame>> {
@@ -276,25 +334,25 @@ fn promoted_oldest(frames: &[Frame]) -> bool {
 }
 
 fn parse_frame(program: &Program, words: &[i32]) -> Option<Frame> {
-    let function = below(words[0], program.functions.len())?;
+    let function = below(words[FUNCTION], program.functions.len())?;
     let code = &program.functions[function];
-    let block = below(words[1], code.blocks.len())?;
-    let done = number(words[2], code.blocks[block].statements.len())?;
-    let open = number(words[4], MAX_CALLS)?;
+    let block = below(words[BLOCK], code.blocks.len())?;
+    let done = number(words[DONE], code.blocks[block].statements.len())?;
+    let open = number(words[OPEN], MAX_CALLS)?;
     Some(Frame {
         function,
         block,
         done,
-        temporaries: parse_temporaries(words[3], &words[10..])?,
-        calls: parse_calls(code, open, &words[6..10])?,
-        promoted: number(words[5], open)?,
+        temporaries: parse_temporaries(words[BOUND], &words[VALUES..])?,
+        calls: parse_calls(code, open, &words[CALLS..VALUES])?,
+        promoted: number(words[PROMOTED], open)?,
     })
 }
 
-fn parse_calls(code: &Function, open: usize, words: &[i32]) -> Option<Vec<usize>> {
+fn parse_calls(code: &Function, open: usize, words: &[i32]) -> Option<Vec<OpenCall>> {
     used_parts(words, open, 1)?
         .into_iter()
-        .map(|call| below(call[0], code.spawns.len()))
+        .map(|call| below(call[0], code.spawns.len()).map(OpenCall::plain))
         .collect()
 }
 

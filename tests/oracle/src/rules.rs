@@ -1,6 +1,8 @@
 //! The rules 1 to 10: steps and promotions of one thread.
 
-use crate::pool::{Frame, Pool, Temporaries, Thread, MAX_CALLS, MAX_FRAMES, MAX_THREADS};
+use crate::pool::{
+    Frame, OpenCall, Opened, Pool, Temporaries, Thread, MAX_CALLS, MAX_FRAMES, MAX_THREADS,
+};
 use crate::table::{Atom, Block, Expression, Function, Name, Program, Temporary, Transfer};
 
 /// A rule that was made.
@@ -70,6 +72,18 @@ pub const PROMOTE: u64 = 1;
 
 /// Makes one choice, or gives its refusal's number and changes nothing.
 pub fn choose(program: &Program, pool: &mut Pool, kind: u64, thread: u64) -> Result<Rule, u8> {
+    choose_as(program, pool, kind, thread, None)
+}
+
+/// The same of a choice that has a number. An open call keeps the number and
+/// the values of its spork wherever it goes, and hands them to its child.
+pub fn choose_as(
+    program: &Program,
+    pool: &mut Pool,
+    kind: u64,
+    thread: u64,
+    number: Option<u64>,
+) -> Result<Rule, u8> {
     if kind > PROMOTE {
         return Err(KIND);
     }
@@ -79,7 +93,7 @@ pub fn choose(program: &Program, pool: &mut Pool, kind: u64, thread: u64) -> Res
         .and_then(|number| pool.thread_mut(number))
         .ok_or(NO_THREAD)?;
     if kind == STEP {
-        step(program, thread)
+        step(program, thread, number)
     } else {
         promote(program, thread, size)
     }
@@ -101,7 +115,7 @@ pub fn steppable(program: &Program, pool: &Pool) -> Vec<usize> {
     pool.threads()
         .into_iter()
         .enumerate()
-        .filter(|(_, thread)| step(program, &mut (*thread).clone()).is_ok())
+        .filter(|(_, thread)| step(program, &mut (*thread).clone(), None).is_ok())
         .map(|(number, _)| number)
         .collect()
 }
@@ -129,7 +143,7 @@ fn lookup(temporaries: &Temporaries, temporary: Temporary) -> Option<i32> {
 }
 
 /// The values of all the temporaries named, if all are bound.
-fn gather(temporaries: &Temporaries, names: &[Temporary]) -> Option<Vec<i32>> {
+pub fn gather(temporaries: &Temporaries, names: &[Temporary]) -> Option<Vec<i32>> {
     names.iter().map(|&t| lookup(temporaries, t)).collect()
 }
 
@@ -172,8 +186,8 @@ fn bind(frame: &mut Frame, parameters: &[Temporary], values: &[i32]) {
     }
 }
 
-/// Steps a thread.
-fn step(program: &Program, thread: &mut Thread) -> Result<Rule, u8> {
+/// Steps a thread, by a choice that may have a number.
+fn step(program: &Program, thread: &mut Thread, number: Option<u64>) -> Result<Rule, u8> {
     match transfer(program, thread) {
         None => statement(program, thread.current_mut()).ok_or(STUCK),
         Some(Transfer::Goto { block, arguments }) => {
@@ -191,7 +205,7 @@ fn step(program: &Program, thread: &mut Thread) -> Result<Rule, u8> {
         }) => call(program, thread, *function, arguments, *return_block),
         Some(Transfer::Return { arguments }) => give_back(program, thread, arguments),
         Some(Transfer::Spork { body, spawn }) => {
-            spork(program, thread.current_mut(), *body, *spawn).ok_or(STUCK)
+            spork(program, thread.current_mut(), *body, *spawn, number).ok_or(STUCK)
         }
         Some(Transfer::Spoin {
             unpromoted,
@@ -282,16 +296,29 @@ fn give_back(program: &Program, thread: &mut Thread, arguments: &[Temporary]) ->
     Ok(Rule::Return)
 }
 
-/// A spork reads no argument and looks at no callee.
-fn spork(program: &Program, frame: &mut Frame, body: Name, spawn: Name) -> Option<Rule> {
+/// A spork needs no argument and looks at no callee.
+fn spork(
+    program: &Program,
+    frame: &mut Frame,
+    body: Name,
+    spawn: Name,
+    number: Option<u64>,
+) -> Option<Rule> {
     let own = function(program, frame);
-    own.spawn(spawn)?;
+    let call = own.spawn(spawn)?;
     let block = taking(own, body, 0)?;
     if frame.calls.len() >= MAX_CALLS {
         return None;
     }
+    let opened = number.map(|choice| Opened {
+        choice,
+        arguments: gather(&frame.temporaries, &call.arguments),
+    });
     jump(frame, body, block, &[]);
-    frame.calls.push(usize::from(spawn));
+    frame.calls.push(OpenCall {
+        spawn: usize::from(spawn),
+        opened,
+    });
     Some(Rule::Spork)
 }
 
@@ -343,10 +370,12 @@ fn promote(program: &Program, thread: &mut Thread, size: usize) -> Result<Rule, 
     if size >= MAX_THREADS {
         return Err(FULL_POOL);
     }
-    let spawn = &function(program, frame).spawns[frame.calls[frame.promoted]];
+    let call = &frame.calls[frame.promoted];
+    let spawn = &function(program, frame).spawns[call.spawn];
     let values = entering(program, frame, spawn.function, &spawn.arguments).ok_or(STUCK)?;
+    let mut child = Thread::entering(usize::from(spawn.function), &values);
+    child.opened.clone_from(&call.opened);
     frame.promoted += 1;
-    let child = Thread::entering(usize::from(spawn.function), &values);
     thread.children.push(child);
     Ok(Rule::Promote)
 }

@@ -250,6 +250,7 @@ impl Numbering {
                 .iter()
                 .map(|child| self.thread(child))
                 .collect(),
+            opened: old.opened.clone(),
         }
     }
 
@@ -259,7 +260,7 @@ impl Numbering {
         self.functions.renumbered(&mut frame.function);
         part.blocks.renumbered(&mut frame.block);
         for call in &mut frame.calls {
-            part.spawns.renumbered(call);
+            part.spawns.renumbered(&mut call.spawn);
         }
         frame
     }

@@ -8,15 +8,17 @@ use oracle::every;
 use oracle::gen::brief::{self, bare, Brief};
 use oracle::gen::calls::{self, Calling};
 use oracle::gen::faults::{self, Kind, Planted};
+use oracle::gen::loops::looping;
 use oracle::gen::schedules::{guided_choice, Choice, Policy};
 use oracle::gen::small::small;
 use oracle::gen::twins::twin;
 use oracle::gen::{bytes, programs, scenario, Scenario};
 use oracle::graph::live;
 use oracle::machine::{complete_differs, differences, unwritten, Oracle};
-use oracle::pool::{Pool, MAX_FRAMES};
+use oracle::openers::Openers;
+use oracle::pool::{Frame, Pool, MAX_FRAMES};
 use oracle::rng::Rng;
-use oracle::rules::{self, ended, Rule, PROMOTE, STEP};
+use oracle::rules::{self, ended, gather, Rule, PROMOTE, STEP};
 use oracle::table::{Function, Program, MAX_FUNCTIONS, TABLE_MAX};
 use oracle::tally::Tally;
 use oracle::tidy::{is_tidy, tidied, Numbering, ROOM};
@@ -43,9 +45,9 @@ fn main() -> ExitCode {
 }
 
 /// One round: an accepted table, its tidy table and its run, planted faults,
-/// spoiled bytes, scenarios, a table rich in calls, tables of version 2, and a
-/// small program of which all scopes and nestings are tried; all from the seed
-/// and the round's number.
+/// spoiled bytes, scenarios, a table rich in calls, one rich in sporks and
+/// loops, tables of version 2, and a small program of which all scopes and
+/// nestings are tried; all from the seed and the round's number.
 fn check_round(tally: &mut Tally, rng: &mut Rng) {
     let program = programs::accepted(rng);
     check_accepted(tally, &program, None);
@@ -65,6 +67,9 @@ fn check_round(tally: &mut Tally, rng: &mut Rng) {
         }
     }
     check_calls(tally, rng);
+    let program = looping(rng);
+    check_accepted(tally, &program, None);
+    check_run(tally, rng, &program);
     for _ in 0..3 {
         check_brief(tally, &brief::brief(rng));
     }
@@ -111,11 +116,14 @@ fn events() -> Vec<String> {
             SOME_PASS,
             NONE_PASSES,
             LATER_PASSES,
+            HANDED,
         ]
         .map(String::from),
     );
     events
 }
+
+const HANDED: &str = "child with the values of its spork";
 
 const BY_PATHS: &str = "depth by all paths";
 const BY_ROUNDS: &str = "depth by rounds alone";
@@ -447,7 +455,7 @@ impl Beside {
 
 /// A random run of an accepted table, made and refused choices: the words of
 /// demand 3 hold before and after every choice, and what the depth says; the
-/// tidy program answers the same.
+/// tidy program answers the same; and a child has its spork's arguments.
 fn check_run(tally: &mut Tally, rng: &mut Rng, program: &Program) {
     let table = encode(program);
     let depth = depth_of(program);
@@ -456,6 +464,7 @@ fn check_run(tally: &mut Tally, rng: &mut Rng, program: &Program) {
     tally.expect(started.is_ok(), || format!("no start: {started:?}"));
     let mut pool = Pool::start();
     let mut beside = Beside::new(program);
+    let mut openers = Openers::default();
     let policy = Policy::random(rng);
     check_progress(tally, program, depth, &pool);
     let mut left = rng.one_of([20, 100, 400]);
@@ -464,9 +473,12 @@ fn check_run(tally: &mut Tally, rng: &mut Rng, program: &Program) {
         let choice = guided_choice(rng, program, &pool, policy);
         check_join(tally, program, &mut pool, choice);
         let before = pool.clone();
-        let answer = rules::choose(program, &mut pool, choice.0, choice.1);
+        let number = Some(openers.next);
+        let answer = rules::choose_as(program, &mut pool, choice.0, choice.1, number);
         tally.answer(answer.map(Rule::number));
         check_answer(tally, program, &before, &pool, choice, &answer);
+        openers.follow(choice.1, answer.map(Rule::number));
+        check_opened(tally, program, &openers, &pool, choice, &answer);
         beside.check(tally, program, &pool, choice, &answer);
         tally.expect(answer != Err(19), || format!("{choice:?} is stuck"));
         check_room(tally, depth, &answer, &pool);
@@ -489,6 +501,40 @@ fn check_run(tally: &mut Tally, rng: &mut Rng, program: &Program) {
     }
     if ended(program, &pool.root).is_some() {
         tally.event("run that returned");
+    }
+}
+
+/// The lists by the answers are the tree's own, and every open call has for its
+/// arguments the values of its spork; a child just promoted begins with them.
+fn check_opened(
+    tally: &mut Tally,
+    program: &Program,
+    openers: &Openers,
+    pool: &Pool,
+    choice: Choice,
+    answer: &Result<Rule, u8>,
+) {
+    tally.expect(openers.agree(pool), || {
+        format!("{openers:?} after {choice:?}, and {pool:?}")
+    });
+    let threads = pool.threads();
+    let kept = threads.iter().flat_map(|t| &t.frames).all(|frame| {
+        let spawns = &program.functions[frame.function].spawns;
+        frame.calls.iter().all(|call| {
+            let now = gather(&frame.temporaries, &spawns[call.spawn].arguments);
+            let then = call.opened.as_ref().and_then(|o| o.arguments.as_ref());
+            now.is_some() && now.as_ref() == then
+        })
+    });
+    tally.expect(kept, || format!("other arguments than then: {pool:?}"));
+    if *answer == Ok(Rule::Promote) {
+        let child = threads[choice.1 as usize + 1];
+        let arguments = child.opened.as_ref().and_then(|o| o.arguments.as_ref());
+        let begins = arguments.is_some_and(|values| {
+            child.frames == [Frame::entering(child.current().function, values)]
+        });
+        tally.expect(begins, || format!("a child with other values: {child:?}"));
+        tally.event(HANDED);
     }
 }
 

@@ -2,7 +2,7 @@
 
 use crate::gen::schedules::{guided_choice, Policy};
 use crate::pool::{
-    frame_start, thread_start, Frame, Pool, Thread, FRAME_WORDS, MAX_CALLS, MAX_FRAMES,
+    frame_start, thread_start, Frame, OpenCall, Pool, Thread, FRAME_WORDS, MAX_CALLS, MAX_FRAMES,
     MAX_THREADS, POOL_WORDS, TEMPORARIES,
 };
 use crate::rng::Rng;
@@ -47,12 +47,14 @@ fn loose_tree(rng: &mut Rng, program: &Program, size: usize) -> Thread {
             return Thread {
                 frames: vec![frame],
                 children,
+                opened: None,
             };
         }
     }
     Thread {
         frames: loose_stack(rng, program, children.len()),
         children,
+        opened: None,
     }
 }
 
@@ -130,7 +132,9 @@ fn loose_frame(rng: &mut Rng, program: &Program, promoted: usize, unpromoted: us
             rng.between(0, statements)
         },
         temporaries: [(); TEMPORARIES].map(|()| rng.chance(dense).then(|| rng.value())),
-        calls: (0..open).map(|_| rng.below(code.spawns.len())).collect(),
+        calls: (0..open)
+            .map(|_| OpenCall::plain(rng.below(code.spawns.len())))
+            .collect(),
         promoted,
     }
 }
@@ -155,7 +159,7 @@ pub fn spoil(rng: &mut Rng, program: &Program, pool: &mut Pool) {
         8 => thread.frames[j].block = code.blocks.len(),
         _ => {
             if let Some(call) = thread.frames[j].calls.first_mut() {
-                *call = code.spawns.len();
+                call.spawn = code.spawns.len();
             }
         }
     }

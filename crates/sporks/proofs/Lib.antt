@@ -1,0 +1,12 @@
+pub mod Turns
+pub mod Own
+pub mod Pairs
+pub mod Values
+pub mod Acts
+pub mod Seen
+pub mod Steps
+pub mod Promotions
+pub mod Choices
+pub mod Puts
+pub mod Theorem
+pub mod Rows
