@@ -30,7 +30,7 @@ extern "C" {
 #define MEZDAULK_VERSION "0.1.0"
 
 /* A pool's length in words. */
-#define MEZDAULK_POOL_WORDS 1673
+#define MEZDAULK_POOL_WORDS 1689
 
 /* The length of the output of mezdaulk_complete in bytes, and the least length of its scratch in words. */
 #define MEZDAULK_OUTPUT_BYTES 16384
@@ -73,7 +73,7 @@ extern "C" {
 #define MEZDAULK_REFUSED_SCOPE 10u    /* a scope or a nesting asks for a temporary that is not there */
 #define MEZDAULK_REFUSED_NESTING 11u  /* a nesting is not the one required */
 /* of the pool, */
-#define MEZDAULK_REFUSED_WORDS 12u    /* the pool has not 1,673 words */
+#define MEZDAULK_REFUSED_WORDS 12u    /* the pool has not 1,689 words */
 #define MEZDAULK_REFUSED_POOL 13u     /* the words are no pool of this table */
 /* of a choice, */
 #define MEZDAULK_REFUSED_KIND 14u     /* the kind is neither 0 nor 1 */
@@ -141,7 +141,7 @@ uint64_t mezdaulk_tidy(const uint8_t *table, size_t bytes, uint8_t *out, size_t 
  * further ones are as they were. table, out and scratch must not overlap. Every other call gives a table of version 2 its 2. */
 uint64_t mezdaulk_complete(const uint8_t *table, size_t bytes, uint8_t *out, size_t room, uint32_t *scratch, size_t words);
 
-/* Makes 1,673 words, whatever they hold, a fresh pool of a table that reads. Given: 0. Refused: 1 to 3, 12; the words are then
+/* Makes 1,689 words, whatever they hold, a fresh pool of a table that reads. Given: 0. Refused: 1 to 3, 12; the words are then
  * as they were. */
 uint64_t mezdaulk_start(const uint8_t *table, size_t bytes, int32_t *pool, size_t words);
 

@@ -11,7 +11,7 @@ import pathlib
 import sys
 
 # The header's names.
-POOL_WORDS = 1673
+POOL_WORDS = 1689
 OUTPUT_BYTES, SCRATCH_WORDS = 16384, 1024
 NOWHERE = 255
 STEP, PROMOTE = 0, 1

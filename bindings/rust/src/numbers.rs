@@ -81,7 +81,7 @@ numbered! {
         Count = 9, "a number of arguments or values is not the number taken";
         Scope = 10, "a scope or a nesting asks for a temporary that is not there";
         Nesting = 11, "a nesting is not the one required";
-        Words = 12, "the pool has not 1,673 words";
+        Words = 12, "the pool has not 1,689 words";
         Pool = 13, "the words are no pool of this table";
         Kind = 14, "the kind is neither 0 nor 1";
         Thread = 15, "there is no such thread";

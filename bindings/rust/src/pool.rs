@@ -6,7 +6,7 @@ use crate::{Reason, Refusal, Rule};
 use std::fmt;
 use std::ops::Deref;
 
-/// The words of a pool, 6,692 bytes without a heap.
+/// The words of a pool, 6,756 bytes without a heap.
 ///
 /// A pool belongs to the table that started it, and each call takes that table again. The calls judge the words, so a pool from
 /// elsewhere is refused if it is none of the table ([`Reason::Pool`]); but the theorem on accepted tables speaks of a pool that
@@ -18,7 +18,7 @@ pub struct Pool {
 
 impl Pool {
     /// How many words a pool has.
-    pub const WORDS: usize = 1673;
+    pub const WORDS: usize = 1689;
 
     /// A fresh pool of a table that reads. Refused: 1 to 3.
     pub fn start(table: &[u8]) -> Result<Pool, Refusal> {

@@ -37,7 +37,7 @@ pub record Roomy (s : List ℕ) (d : ℕ) (ws : List ℤ) (cs : List Call) : Typ
   pub answered : d ≤ mostFrames → Each (NotFull s) (choices s ws cs)
   pub stands : d ≤ mostFrames → Returned s (finally s ws cs) ⊎ CanStep s (finally s ws cs)
 
--- for every table with a depth, every 1,673 words lent to the start, and every list of calls after it
+-- for every table with a depth, every 1,689 words lent to the start, and every list of calls after it
 pub record NeverFull (s : List ℕ) (d : ℕ) (ws : List ℤ) : Type 0 where
   pub starts : Calls.start s ws .answer ≡ Answer.given tt
   pub roomy : (cs : List Call) → Roomy s d (Calls.start s ws .after) cs
@@ -76,7 +76,7 @@ pub record Follows (s : List ℕ) (P : Program) (ws : List ℤ) (cs : List Call)
   pub after : Chained s (finally s ws cs)
   pub answered : Each (Full s P) (choices s ws cs)
 
--- for every table that reads, accepted or not, every 1,673 words lent to the start, and every list of calls after it
+-- for every table that reads, accepted or not, every 1,689 words lent to the start, and every list of calls after it
 abbrev pub AnyTable : Type 0
 AnyTable =
     (s : List ℕ) (P : Program) (ws : List ℤ) → read s ≡ Answer.given P → length ws ≡ poolWords → (cs : List Call) →

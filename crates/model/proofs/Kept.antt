@@ -29,7 +29,7 @@ use Rattle.model.proofs.Facts.{true-false, none-some, some-injective, u
 use Rattle.model.proofs.Guarantees.{read-limits}
 use Rattle.model.proofs.Members.{with-lt}
 use Rattle.model.proofs.Sets.{with-same, with-other}
-use Rattle.model.specs.Valid.{Stands, IsFrame, IsOlder, Settled, Ordered, IsThread, IsPool}
+use Rattle.model.specs.Valid.{Stands, IsFrame, IsOlder, Settled, Ordered, IsPurse, IsThread, IsPool}
 use Rattle.model.proofs.Valid.{pool-facts, facts-pool, Upright, upright-order, thread-upright, restacked-frames, upright-thread}
 use Rattle.model.proofs.Words.{begin-frame, begin-thread, IsLent, lent-given, lent-words}
 
@@ -326,12 +326,12 @@ module _ {P : Program} (L : Limits P) where
       alone (k ∷ K) a d q = none-some q
 
   -- a thread with the frame j over K
-  top-kept : (c m n rule : ℕ) (t : Thread) (k : Frame) (K : List Frame) (ts : List Thread) (o : Option Frame) → suc (length K) ≤ mostFrames
-      → Each (IsOlder P) K → Ordered (k ∷ K) → n ≤ k .promoted → Each (IsThread P) ts → trees (n + children K + c) ts ≡ true
+  top-kept : (c m n rule : ℕ) (t : Thread) (k : Frame) (K : List Frame) (ts : List Thread) (o : Option Frame) → IsPurse (t .purse)
+      → suc (length K) ≤ mostFrames → Each (IsOlder P) K → Ordered (k ∷ K) → n ≤ k .promoted → Each (IsThread P) ts → trees (n + children K + c) ts ≡ true
       → suc (length ts) ≤ m → OnSome (Goes P n) o → Keeps P (suc c) m (Rules.onTop rule t K ts o)
   unfolding Rules.onTop trees children
-  top-kept c m n rule t k K ts none few older order l each tree fits g = tt
-  top-kept c m n rule t k K ts (some j) few older order l each tree fits g =
+  top-kept c m n rule t k K ts none e few older order l each tree fits g = tt
+  top-kept c m n rule t k K ts (some j) e few older order l each tree fits g =
       record {
         each = (
           record {
@@ -339,6 +339,7 @@ module _ {P : Program} (L : Limits P) where
             newest = g .frame;
             older = older;
             order = (λ q. order .0 (omega (arith, g .promoted)), order .1);
+            purse = e;
           },
           each,
         );
@@ -347,15 +348,15 @@ module _ {P : Program} (L : Limits P) where
       }
 
   -- return: the callee's frame has no calls
-  popping-kept : (c : ℕ) (t : Thread) (k : Frame) (K : List Frame) (ts : List Thread) (v̄ : List ℤ) → suc (length K) ≤ mostFrames
-      → Upright P (k ∷ K) → k .calls ≡ [] → Each (IsThread P) ts → trees (children (k ∷ K) + c) ts ≡ true
+  popping-kept : (c : ℕ) (t : Thread) (k : Frame) (K : List Frame) (ts : List Thread) (v̄ : List ℤ) → IsPurse (t .purse)
+      → suc (length K) ≤ mostFrames → Upright P (k ∷ K) → k .calls ≡ [] → Each (IsThread P) ts → trees (children (k ∷ K) + c) ts ≡ true
       → Keeps P (suc c) (suc (length ts)) (Rules.popping P t K ts v̄)
   unfolding Rules.popping children
-  popping-kept c t k [] ts v̄ few h e each tree = tt
-  popping-kept c t k (l ∷ K) ts v̄ few h e each tree =
+  popping-kept c t k [] ts v̄ u few h e each tree = tt
+  popping-kept c t k (l ∷ K) ts v̄ u few h e each tree =
       let n : k .promoted ≤ length (k .calls) = h .0 .promoted in
       let z : length (k .calls) ≡ 0 = ap length e in
-      top-kept c (suc (length ts)) (l .promoted) No.return t l K ts (enter P l (l .block) v̄) (omega arith)
+      top-kept c (suc (length ts)) (l .promoted) No.return t l K ts (enter P l (l .block) v̄) u (omega arith)
       (h .1 .1) (h .2 .1) (omega arith) each (same-tree ts tree (omega arith)) (omega arith)
       (enter-kept L l (l .block) v̄ (h .1 .0 .frame))
 
@@ -373,8 +374,8 @@ module _ {P : Program} (L : Limits P) where
             let n : ℕ = l .promoted + children (t .older) + c in
             let child : trees (suc n) (u ∷ ts) ≡ true = same-tree (u ∷ ts) tree (omega arith) in
             let left : trees n ts ≡ true = sym (leaf-tree n u ts (ended-leaf u (each .0) e)) ∙ child in
-            top-kept c (suc (suc (length ts))) (l .promoted) No.prom t (t .newest) (t .older) ts (enter P l b v̄) (h .few) (h .older)
-            (h .order) (omega arith) (each .1) left (omega arith) (enter-kept L l b v̄ f)
+            top-kept c (suc (suc (length ts))) (l .promoted) No.prom t (t .newest) (t .older) ts (enter P l b v̄) (h .purse) (h .few)
+            (h .older) (h .order) (omega arith) (each .1) left (omega arith) (enter-kept L l b v̄ f)
 
     -- a call: the caller gets a newer frame, with nothing promoted
     push-kept : (l m : Frame) (ts : List Thread) → Pushes P (t .newest .promoted) l m → length (frames t) < mostFrames
@@ -390,6 +391,7 @@ module _ {P : Program} (L : Limits P) where
               newest = d .begun .frame;
               older = (d .caller, h .older);
               order = (λ q. absurd (omega (arith, d .begun .promoted)), (λ q. h .order .0 (omega (arith, d .promoted)), h .order .1));
+              purse = h .purse;
             },
             each,
           );
@@ -402,8 +404,8 @@ module _ {P : Program} (L : Limits P) where
     unfolding Rules.apply Rules.onTop children
     apply-kept ts (Act.refuse n) d each tree = tt
     apply-kept ts (Act.stay rule l) d each tree =
-        top-kept c (suc (length ts)) (t .newest .promoted) rule t (t .newest) (t .older) ts (some l) (h .few) (h .older) (h .order)
-        (omega arith) each tree (omega arith) d
+        top-kept c (suc (length ts)) (t .newest .promoted) rule t (t .newest) (t .older) ts (some l) (h .purse) (h .few) (h .older)
+        (h .order) (omega arith) each tree (omega arith) d
     apply-kept ts (Act.push l m) d each tree = go (ltb (length (frames t)) mostFrames) refl
       where
         go : (b : Bool) → ltb (length (frames t)) mostFrames ≡ b
@@ -411,7 +413,7 @@ module _ {P : Program} (L : Limits P) where
             (cond b (Result.made No.call (restacked t (m ∷ l ∷ t .older) ∷ ts)) (Result.refused No.frames))
         go false q = tt
         go true q = push-kept l m ts d (ltb-true (length (frames t)) mostFrames q) each tree
-    apply-kept ts (Act.pop v̄) d each tree = popping-kept c t (t .newest) (t .older) ts v̄ (h .few) (thread-upright P h) d each tree
+    apply-kept ts (Act.pop v̄) d each tree = popping-kept c t (t .newest) (t .older) ts v̄ (h .purse) (h .few) (thread-upright P h) d each tree
     apply-kept ts (Act.join l b) d each tree = joins-kept l b ts (d .0) (d .1) each tree
 
   pub step-kept : (c : ℕ) (t : Thread) (ts : List Thread) → Each (IsThread P) (t ∷ ts) → trees (suc c) (t ∷ ts) ≡ true
@@ -510,7 +512,7 @@ module _ {P : Program} (L : Limits P) where
   promoting-kept false c t ts (some p) h d each tree = tt
   promoting-kept true c t ts (some p) h d each tree =
       let f : length (frames t) ≤ mostFrames = h .few in
-      let u = upright-thread P t (p .frames) (omega (arith, d .long)) (d .upright) in
+      let u = upright-thread P t (p .frames) (omega (arith, d .long)) (d .upright) (h .purse) in
       let m : children (frames (restacked t (p .frames))) ≡ suc (children (frames t)) =
       ap children (restacked-frames t (p .frames) (omega (arith, d .long))) ∙ d .more
       in

@@ -1,6 +1,6 @@
 -- The ten marked runs of document 01, a run for each of its numbers, and the places where scripts go wrong: one table, and
 -- one statement about it, proved by computation.
-use Prim.Native.Nat.{ℕ, _-_}
+use Prim.Native.Nat.{ℕ, _+_, _-_}
 use mathlib.Core.Path.{_≡_, refl}
 use mathlib.Core.Option.{Option, none, some}
 use mathlib.Core.List.{List, [], _∷_, _++_}
@@ -22,7 +22,7 @@ use Rattle.model.specs.Rules as Rules
 use Rattle.model.specs.Calls as Calls
 use Rattle.model.specs.Answers.{Refusal, Answer}
 use Rattle.model.specs.Lists.{Each}
-use Rattle.model.specs.Pool.{poolWords}
+use Rattle.model.specs.Pool.{mostWork, mostTokens, workAt, tokensAt, poolWords, threadStart}
 use Rattle.model.specs.Calls.{Choice, check, start, choose, values}
 
 -- every definition that a run computes with
@@ -36,8 +36,8 @@ unfolding Answers.numberOf Answers.with Lists.all Lists.equal Lists.unsnoc Lists
     Check.code Check.fresh Check.nested Check.isEntry Check.block Check.spawn Check.ofBlocks Check.ofFunctions Check.ofMain Check.tests
     Check.at Check.firstFault Check.judge Pool.begin Pool.wordsOfFrame Pool.threadHead Pool.wordsOfThread Pool.wordsOf Pool.runs Pool.wordAt
     Pool.countAt Pool.frameOf Pool.threadOf Pool.poolOf Pool.sameWords Pool.functionOf Pool.blockIn Pool.blockOf Pool.blank Pool.inBlock
-    Pool.inFunction Pool.isFrame Pool.isOlder Pool.settled Pool.ordered Pool.isThread Pool.children Pool.trees Pool.isPool Pool.arePool
-    Pool.started Frames.when Frames.look Frames.lookAll Frames.evalAtom Frames.eval Frames.bind Frames.bindAll Frames.goTo Frames.deque
+    Pool.inFunction Pool.isFrame Pool.isOlder Pool.settled Pool.ordered Pool.isPurse Pool.isThread Pool.children Pool.trees Pool.isPool
+    Pool.arePool Pool.started Frames.when Frames.look Frames.lookAll Frames.evalAtom Frames.eval Frames.bind Frames.bindAll Frames.goTo Frames.deque
     Frames.entering Frames.enter Frames.callee Rules.by Rules.acts Rules.stmt Rules.goto Rules.branch Rules.if Rules.call Rules.return
     Rules.spork Rules.closing Rules.spoin Rules.transfer Rules.coming Rules.act Rules.returned Rules.ended Rules.onTop Rules.popping
     Rules.joining Rules.joins Rules.apply Rules.step Rules.promoteIn Rules.orElse Rules.oldest Rules.child Rules.spawned Rules.promoting
@@ -558,3 +558,24 @@ right = (
     ),
   ),
 )
+
+-- 13 by a thread's work and tokens: the greatest of each is one of a pool, one more is not, nor is a negative word, nor anything but 0
+-- in a thread that is not used
+abbrev purse : ℕ → ℕ → ℤ → List ℤ
+purse i at w = set (begun A) (threadStart i + at) w
+
+abbrev pub purses : List Row
+purses =
+    Row.put A (purse 0 workAt (pos mostWork)) (step 0) (makes No.stmt) ∷
+    Row.put A (purse 0 workAt (pos (mostWork + 1))) (step 0) (refuses No.pool) ∷
+    Row.put A (purse 0 workAt (negsuc 0)) (step 0) (refuses No.pool) ∷
+    Row.put A (purse 0 tokensAt (pos mostTokens)) (step 0) (makes No.stmt) ∷
+    Row.put A (purse 0 tokensAt (pos (mostTokens + 1))) (step 0) (refuses No.pool) ∷
+    Row.put A (purse 0 tokensAt (negsuc 0)) (step 0) (refuses No.pool) ∷
+    Row.put A (purse 1 workAt (pos 1)) (step 0) (refuses No.pool) ∷
+    Row.put A (purse 1 tokensAt (pos 1)) (step 0) (refuses No.pool) ∷
+    []
+
+pub purses-right : Each Right purses
+unfolding all
+purses-right = (refl, (refl, (refl, (refl, (refl, (refl, (refl, (refl, tt))))))))

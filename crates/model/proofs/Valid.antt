@@ -13,9 +13,10 @@ use Rattle.model.specs.Lists.{all, Each}
 use Rattle.model.specs.Values.{same}
 use Rattle.model.specs.Sets.{has}
 use Rattle.model.specs.Syntax.{Block, Function, Program}
-use Rattle.model.specs.Pool.{Frame, Thread, Pool, temporaries, mostCalls, mostFrames, mostThreads, frames, restacked, functionOf}
-use Rattle.model.specs.Pool.{blank, inBlock, inFunction, isFrame, isOlder, settled, ordered, isThread, isPool}
-use Rattle.model.specs.Valid.{Blank, Stands, IsFrame, IsOlder, Settled, Ordered, IsThread, IsPool}
+use Rattle.model.specs.Pool.{Frame, Purse, Thread, Pool, temporaries, mostCalls, mostFrames, mostThreads, mostWork, mostTokens}
+use Rattle.model.specs.Pool.{frames, restacked, functionOf, blank, inBlock, inFunction, isFrame, isOlder, settled, ordered}
+use Rattle.model.specs.Pool.{isPurse, isThread, isPool}
+use Rattle.model.specs.Valid.{Blank, Stands, IsFrame, IsOlder, Settled, Ordered, IsPurse, IsThread, IsPool}
 use Rattle.model.proofs.Facts.{true-false, and-left, and-right, both-and, left-or, right-or, or-right, each-map, all-each, each-all}
 use Rattle.model.proofs.Facts.{ltb-true, leb-true, eqb-true, lt-ltb, le-leb, eq-eqb, ne-eqb}
 
@@ -81,6 +82,20 @@ facts-ordered (k ∷ K) h = both-and (eqb (k .promoted) 0 || all settled K) _ (g
     go (suc n) e =
         right-or (eqb (k .promoted) 0) (all settled K)
         (each-all settled K (each-map (λ l q. eq-eqb (l .promoted) (length (l .calls)) q) K (h .0 (omega arith))))
+
+purse-facts : (e : Purse) → isPurse e ≡ true → IsPurse e
+unfolding isPurse
+purse-facts e h =
+    let a = leb (e .work) mostWork in
+    record {
+      work = leb-true (e .work) mostWork (and-left a _ h);
+      tokens = leb-true (e .tokens) mostTokens (and-right a _ h);
+    }
+
+facts-purse : (e : Purse) → IsPurse e → isPurse e ≡ true
+unfolding isPurse
+facts-purse e h =
+    both-and (leb (e .work) mostWork) _ (le-leb (e .work) mostWork (h .work)) (le-leb (e .tokens) mostTokens (h .tokens))
 
 module _ (P : Program) where
   stands-facts : (k : Frame) (o : Option Function) → functionOf P k ≡ o → inFunction k o ≡ true → Stands P k
@@ -161,13 +176,16 @@ module _ (P : Program) where
       let a = leb (length (frames t)) mostFrames in
       let b = isFrame P (t .newest) in
       let c = all (isOlder P) (t .older) in
-      let e₃ = and-left (a && b && c) _ e in
+      let d = ordered (frames t) in
+      let e₄ = and-left (a && b && c && d) _ e in
+      let e₃ = and-left (a && b && c) _ e₄ in
       let e₂ = and-left (a && b) _ e₃ in
       record {
         few = leb-true (length (frames t)) mostFrames (and-left a _ e₂);
         newest = frame-facts (t .newest) (and-right a _ e₂);
         older = each-map older-facts (t .older) (all-each (isOlder P) (t .older) (and-right (a && b) _ e₃));
-        order = ordered-facts (frames t) (and-right (a && b && c) _ e);
+        order = ordered-facts (frames t) (and-right (a && b && c) _ e₄);
+        purse = purse-facts (t .purse) (and-right (a && b && c && d) _ e);
       }
 
   pub facts-thread : (t : Thread) → IsThread P t → isThread P t ≡ true
@@ -176,7 +194,8 @@ module _ (P : Program) where
       let a : leb (length (frames t)) mostFrames ≡ true = le-leb (length (frames t)) mostFrames (h .few) in
       let b : isFrame P (t .newest) ≡ true = facts-frame (t .newest) (h .newest) in
       let c : all (isOlder P) (t .older) ≡ true = each-all (isOlder P) (t .older) (each-map facts-older (t .older) (h .older)) in
-      rw (a, b, c) (facts-ordered (frames t) (h .order))
+      let d : ordered (frames t) ≡ true = facts-ordered (frames t) (h .order) in
+      rw (a, b, c, d) (facts-purse (t .purse) (h .purse))
 
   pub pool-facts : (p : Pool) → isPool P p ≡ true → IsPool P p
   unfolding isPool
@@ -206,6 +225,10 @@ pub restacked-frames : (t : Thread) (K : List Frame) → 0 < length K → frames
 restacked-frames t [] h = absurd (omega arith)
 restacked-frames t (k ∷ K) h = refl
 
+pub restacked-purse : (t : Thread) (K : List Frame) → restacked t K .purse ≡ t .purse
+restacked-purse t [] = refl
+restacked-purse t (k ∷ K) = refl
+
 module _ (P : Program) where
   pub upright-order : (K : List Frame) → Upright P K → Ordered K
   upright-order [] h = absurd h
@@ -214,6 +237,7 @@ module _ (P : Program) where
   pub thread-upright : {t : Thread} → IsThread P t → Upright P (frames t)
   thread-upright h = (h .newest, h .older, h .order)
 
-  pub upright-thread : (t : Thread) (K : List Frame) → length K ≤ mostFrames → Upright P K → IsThread P (restacked t K)
-  upright-thread t [] few h = absurd h
-  upright-thread t (k ∷ K) few h = record { few = few; newest = h .0; older = h .1; order = h .2 }
+  pub upright-thread : (t : Thread) (K : List Frame) → length K ≤ mostFrames → Upright P K → IsPurse (t .purse)
+      → IsThread P (restacked t K)
+  upright-thread t [] few h e = absurd h
+  upright-thread t (k ∷ K) few h e = record { few = few; newest = h .0; older = h .1; order = h .2; purse = e }

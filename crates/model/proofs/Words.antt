@@ -17,7 +17,7 @@ use Rattle.model.specs.Values.{same, number}
 use Rattle.model.specs.Sets.{has, below}
 use Rattle.model.specs.Syntax.{Function, Program}
 use Rattle.model.specs.Pool.{Frame, Thread, Pool, temporaries, mostCalls, mostFrames, mostThreads, frameWords, threadWords, poolWords}
-use Rattle.model.specs.Pool.{frameCountAt, framesAt, threadCountAt, threadsAt, frames, born, restacked, begin, wordsOfFrame}
+use Rattle.model.specs.Pool.{frameCountAt, workAt, tokensAt, framesAt, threadCountAt, threadsAt, frames, born, restacked, begin, wordsOfFrame}
 use Rattle.model.specs.Pool.{threadHead, wordsOfThread, wordsOf, runs, wordAt, countAt, frameOf, threadOf, poolOf, sameWords}
 use Rattle.model.specs.Pool.{threadStart, functionOf, children, trees, isPool, arePool, started}
 use Rattle.model.specs.Answers.{Refusal, Answer, with}
@@ -139,6 +139,14 @@ module _ (t : Thread) where
   pub thread-count : getD (wordsOfThread t) frameCountAt (pos 0) ≡ pos (length (frames t))
   unfolding wordsOfThread
   thread-count = List·getD-append (threadHead t) _ (pos 0) frameCountAt (omega (arith, head-length)) ∙ head-count
+
+  pub thread-work : getD (wordsOfThread t) workAt (pos 0) ≡ pos (t .purse .work)
+  unfolding wordsOfThread threadHead
+  thread-work = refl
+
+  pub thread-tokens : getD (wordsOfThread t) tokensAt (pos 0) ≡ pos (t .purse .tokens)
+  unfolding wordsOfThread threadHead
+  thread-tokens = refl
 
 -- a head, at most so many runs of one size, and 0 behind them: a thread's words, and a pool's
 module _ {A : Type 0} (most size : ℕ) (write : A → List ℤ) (back : List ℤ → A) where
@@ -325,7 +333,14 @@ begin-frame P L g {G} v̄ e few =
     }
 
 pub begin-thread : (P : Program) (k : Frame) → IsFrame P k → IsThread P (born k)
-begin-thread P k h = record { few = lit≤ tt; newest = h; older = tt; order = (λ _. tt, tt) }
+begin-thread P k h =
+    record {
+      few = lit≤ tt;
+      newest = h;
+      older = tt;
+      order = (λ _. tt, tt);
+      purse = record { work = zero-le; tokens = zero-le };
+    }
 
 -- the empty frame is of the layout's sizes, and so is a new thread of such a frame
 pub empty-fits : FrameFits (begin 0 [])

@@ -24,6 +24,12 @@ mostFrames = 8
 abbrev pub mostThreads : ℕ
 mostThreads = 8
 
+abbrev pub mostWork : ℕ
+mostWork = 65534
+
+abbrev pub mostTokens : ℕ
+mostTokens = 2000000000
+
 -- a frame's 26 words: six numbers, of which that at `openedAt` is the number of open calls; the calls; the values
 abbrev pub functionAt : ℕ
 functionAt = 0
@@ -52,17 +58,23 @@ valuesAt = callsAt + mostCalls
 abbrev pub frameWords : ℕ
 frameWords = valuesAt + temporaries
 
--- a thread's 209 words: the number of its frames; the frames
+-- a thread's 211 words: the number of its frames; its work and its tokens; the frames
 abbrev pub frameCountAt : ℕ
 frameCountAt = 0
 
+abbrev pub workAt : ℕ
+workAt = 1
+
+abbrev pub tokensAt : ℕ
+tokensAt = 2
+
 abbrev pub framesAt : ℕ
-framesAt = 1
+framesAt = 3
 
 abbrev pub threadWords : ℕ
 threadWords = framesAt + mostFrames * frameWords
 
--- a pool's 1,673 words: the number of its threads; the threads
+-- a pool's 1,689 words: the number of its threads; the threads
 abbrev pub threadCountAt : ℕ
 threadCountAt = 0
 
@@ -90,10 +102,16 @@ pub record Frame : Type 0 where
   pub promoted : ℕ
   pub values : List ℤ
 
--- a call stack: the newest frame, and the older ones, newest first
+-- heartbeat tokens (document 001, 4.3): the work done since tokens last came, and the tokens that a thread has. No rule looks at them
+pub record Purse : Type 0 where
+  pub work : ℕ
+  pub tokens : ℕ
+
+-- a call stack: the newest frame, and the older ones, newest first; and the thread's purse
 pub record Thread : Type 0 where
   pub newest : Frame
   pub older : List Frame
+  pub purse : Purse
 
 -- threads in preorder: each is followed by its children's trees, newest child first
 abbrev pub Pool : Type 0
@@ -102,14 +120,21 @@ Pool = List Thread
 abbrev pub frames : Thread → List Frame
 frames t = t .newest ∷ t .older
 
--- a new thread, of one frame
+-- a new thread, of one frame and with nothing in its purse
+abbrev pub empty : Purse
+empty = record { work = 0; tokens = 0 }
+
 abbrev pub born : Frame → Thread
-born k = record { newest = k; older = [] }
+born k = record { newest = k; older = []; purse = empty }
 
 -- the thread t with these frames, newest first, and all else of it kept. Where there are none it stays as it is
 abbrev pub restacked : Thread → List Frame → Thread
 restacked t [] = t
-restacked t (k ∷ K) = record { newest = k; older = K }
+restacked t (k ∷ K) = record { newest = k; older = K; purse = t .purse }
+
+-- the thread t with another purse
+abbrev pub endowed : Thread → Purse → Thread
+endowed t e = record { newest = t .newest; older = t .older; purse = e }
 
 -- a function's first frame: the entry, with parameter k as temporary k
 unfoldable pub begin : ℕ → List ℤ → Frame
@@ -132,7 +157,7 @@ wordsOfFrame k =
 
 -- what stands before a thread's frames
 unfoldable pub threadHead : Thread → List ℤ
-threadHead t = pos (length (frames t)) ∷ []
+threadHead t = pos (length (frames t)) ∷ pos (t .purse .work) ∷ pos (t .purse .tokens) ∷ []
 
 unfoldable pub wordsOfThread : Thread → List ℤ
 wordsOfThread t = threadHead t ++ pad (mostFrames * frameWords) (pos 0) (concat (map wordsOfFrame (reverse (frames t))))
@@ -165,9 +190,12 @@ frameOf ws =
       values = take temporaries (drop valuesAt ws);
     }
 
+abbrev pub purseOf : List ℤ → Purse
+purseOf ws = record { work = wordAt ws workAt; tokens = wordAt ws tokensAt }
+
 unfoldable pub threadOf : List ℤ → Thread
 threadOf ws =
-    restacked (born (begin 0 []))
+    restacked (endowed (born (begin 0 [])) (purseOf ws))
     (reverse (map frameOf (runs frameWords (countAt mostFrames ws frameCountAt) (drop framesAt ws))))
 
 unfoldable pub poolOf : List ℤ → Pool
@@ -225,9 +253,16 @@ unfoldable pub ordered : List Frame → Bool
 ordered [] = true
 ordered (k ∷ K) = (eqb (k .promoted) 0 || all settled K) && ordered K
 
+unfoldable pub isPurse : Purse → Bool
+isPurse e = leb (e .work) mostWork && leb (e .tokens) mostTokens
+
 unfoldable pub isThread : Program → Thread → Bool
 isThread P t =
-    leb (length (frames t)) mostFrames && isFrame P (t .newest) && all (isOlder P) (t .older) && ordered (frames t)
+    leb (length (frames t)) mostFrames &&
+    isFrame P (t .newest) &&
+    all (isOlder P) (t .older) &&
+    ordered (frames t) &&
+    isPurse (t .purse)
 
 -- each promoted call is one child
 unfoldable pub children : List Frame → ℕ

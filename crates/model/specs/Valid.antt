@@ -9,7 +9,8 @@ use lib.ListN.{length, getD, getElem?}
 use Rattle.model.specs.Lists.{Each}
 use Rattle.model.specs.Sets.{has}
 use Rattle.model.specs.Syntax.{Block, Function, Program}
-use Rattle.model.specs.Pool.{Frame, Thread, Pool, temporaries, mostCalls, mostFrames, mostThreads, frames, functionOf, trees}
+use Rattle.model.specs.Pool.{Frame, Purse, Thread, Pool, temporaries, mostCalls, mostFrames, mostThreads, mostWork, mostTokens}
+use Rattle.model.specs.Pool.{frames, functionOf, trees}
 
 -- the value of an unbound temporary is 0
 abbrev pub Blank : ℕ → List ℤ → Type 0
@@ -45,11 +46,16 @@ abbrev pub Ordered : List Frame → Type 0
 Ordered [] = Unit {0}
 Ordered (k ∷ K) = (0 < k .promoted → Each Settled K) × Ordered K
 
+pub record IsPurse (e : Purse) : Type 0 where
+  pub work : e .work ≤ mostWork
+  pub tokens : e .tokens ≤ mostTokens
+
 pub record IsThread (P : Program) (t : Thread) : Type 0 where
   pub few : length (frames t) ≤ mostFrames
   pub newest : IsFrame P (t .newest)
   pub older : Each (IsOlder P) (t .older)
   pub order : Ordered (frames t)
+  pub purse : IsPurse (t .purse)
 
 pub record IsPool (P : Program) (p : Pool) : Type 0 where
   pub few : length p ≤ mostThreads

@@ -38,7 +38,7 @@ renamedFrame R k =
     }
 
 unfoldable pub renamedThread : Numbering → Thread → Thread
-renamedThread R t = record { newest = renamedFrame R (t .newest); older = map (renamedFrame R) (t .older) }
+renamedThread R t = record { newest = renamedFrame R (t .newest); older = map (renamedFrame R) (t .older); purse = t .purse }
 
 abbrev pub renamedPool : Numbering → Pool → Pool
 renamedPool R p = map (renamedThread R) p

@@ -25,6 +25,10 @@ impl Pool {
 
     pub const TEMPORARIES: usize = 16;
 
+    pub const WORK: usize = 65534;
+
+    pub const TOKENS: usize = 2000000000;
+
     // A frame's words.
     pub const FUNCTION_AT: usize = 0;
 
@@ -47,7 +51,11 @@ impl Pool {
     // A thread's words.
     pub const FRAME_COUNT_AT: usize = 0;
 
-    pub const FRAMES_AT: usize = 1;
+    pub const WORK_AT: usize = 1;
+
+    pub const TOKENS_AT: usize = 2;
+
+    pub const FRAMES_AT: usize = 3;
 
     pub const THREAD_WORDS: usize = Pool::FRAMES_AT + Pool::FRAMES * Pool::FRAME_WORDS;
 

@@ -141,7 +141,7 @@ pub record Safe (s : List ℕ) (ws : List ℤ) (cs : List Call) : Type 0 where
   pub joined : Each (Joined s) (choices s ws cs)
   pub stands : Stands s (finally s ws cs)
 
--- demand 3: for every table that the check accepts, every 1,673 words lent to the start, and every list of calls after it
+-- demand 3: for every table that the check accepts, every 1,689 words lent to the start, and every list of calls after it
 pub record NeverJams (s : List ℕ) (ws : List ℤ) : Type 0 where
   pub starts : Calls.start s ws .answer ≡ Answer.given tt
   pub safe : (cs : List Call) → Safe s (Calls.start s ws .after) cs

@@ -118,7 +118,7 @@ pub record Handed (s : List ℕ) (ws : List ℤ) (cs : List Call) : Type 0 where
   pub ever : (m : ℕ) (p : Put) → getElem? (choices s ws cs) m ≡ some p → Kept s (take m (choices s ws cs)) (p .words)
   pub after : Kept s (choices s ws cs) (finally s ws cs)
 
--- for every table that the check accepts, every 1,673 words lent to the start, and every list of calls after it
+-- for every table that the check accepts, every 1,689 words lent to the start, and every list of calls after it
 abbrev pub Arguments : Type 0
 Arguments =
     (s : List ℕ) (ws : List ℤ) → check s ≡ Answer.given tt → length ws ≡ poolWords →

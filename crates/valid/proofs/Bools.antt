@@ -60,6 +60,9 @@ unfolding plain
 small-number (pos n) h = refl
 small-number (negsuc n) h = absurd (omega arith)
 
+pub written-number : (w : ℤ) → plain w < beyond → pos (number w) ≡ w
+written-number w h = ap pos (small-number w h) ∙ sym (small w h)
+
 pub plain-of : {w : ℤ} {n : ℕ} → pos n ≡ w → plain w ≡ n
 unfolding plain
 plain-of e = ap plain (sym e)

@@ -8,19 +8,18 @@ use native.Mathlib.Omega.{arith}
 use lib.Dec.{eqb}
 use lib.IntN.{ℤ, pos}
 use lib.ListN.{length, getD, take, drop, length-drop, take-append-drop}
-use lib.Seq.{drop-cons}
 use Rattle.model.specs.Lists.{all, Each, pad, concat}
 use Rattle.model.specs.Syntax.{Program}
-use Rattle.model.specs.Pool.{Frame, Thread, mostFrames, doneAt, openedAt, promotedAt, frameWords, frameCountAt, framesAt, threadWords}
-use Rattle.model.specs.Pool.{frames, born, restacked, begin, wordsOfFrame, threadHead, wordsOfThread, runs, wordAt, countAt, frameOf}
-use Rattle.model.specs.Pool.{threadOf, sameWords, children}
+use Rattle.model.specs.Pool.{Frame, Thread, mostFrames, mostWork, mostTokens, doneAt, openedAt, promotedAt, frameWords, frameCountAt}
+use Rattle.model.specs.Pool.{workAt, tokensAt, framesAt, threadWords, frames, born, endowed, restacked, begin, wordsOfFrame, threadHead, wordsOfThread, runs}
+use Rattle.model.specs.Pool.{wordAt, countAt, frameOf, purseOf, threadOf, sameWords, children}
 use Rattle.model.proofs.Facts.{and-left, and-right, both-and, right-false, or-right, each-map, eqb-true, eqb-false, eq-eqb, ne-eqb}
-use Rattle.model.specs.Valid.{IsOlder, Settled, Ordered, IsThread, FrameFits, ThreadFits}
-use Rattle.model.proofs.Valid.{thread-facts, facts-thread, Upright, restacked-frames, thread-upright}
-use Rattle.model.proofs.Words.{each-reverse, frame-length, head-length, thread-count, thread-length, same-words, same-words-refl}
-use Rattle.model.proofs.Words.{empty-fits, born-fits}
+use Rattle.model.specs.Valid.{IsOlder, Settled, Ordered, IsPurse, IsThread, FrameFits, ThreadFits}
+use Rattle.model.proofs.Valid.{thread-facts, facts-thread, Upright, restacked-frames, restacked-purse, thread-upright}
+use Rattle.model.proofs.Words.{each-reverse, frame-length, head-length, thread-count, thread-work, thread-tokens, thread-length, same-words}
+use Rattle.model.proofs.Words.{same-words-refl, empty-fits, born-fits}
 use Rattle.valid.specs.Judged.{num, isZero, goodFrame, goodThread, lasts, fine, promotions}
-use Rattle.valid.proofs.Bools.{split, small, small-number, plain-of}
+use Rattle.valid.proofs.Bools.{split, small, small-number, written-number, plain-of}
 use Rattle.valid.proofs.FrameWords.{numbered, good-same, good-frame, frame-good, frame-fits}
 use Rattle.valid.proofs.Runs.{Same, again, length-back, lasts-reverse, runs-lasts, lasts-runs, runs-long, padded-runs, runs-padded}
 
@@ -155,7 +154,11 @@ module _ (t : List ℤ) (l : length t ≡ threadWords) where
   unfolding threadOf
   thread-fits =
       let n = length-back frameWords (count t) frameOf (drop framesAt t) in
-      let f = restacked-fits (born (begin 0 [])) read (born-fits empty-fits) (omega (arith, count-few, n)) read-fits in
+      let b = born-fits empty-fits in
+      let f =
+      restacked-fits (endowed (born (begin 0 [])) (purseOf t)) read (record { few = b .few; each = b .each })
+      (omega (arith, count-few, n)) read-fits
+      in
       record { few = f .few; each = f .each }
 
   pub thread-sized : length (wordsOfThread (threadOf t)) ≡ threadWords
@@ -182,6 +185,8 @@ pub record ThreadTests (P : Program) (t : List ℤ) : Type 0 where
   pub few : num t frameCountAt ≤ mostFrames
   pub behind : all isZero (drop (num t frameCountAt * frameWords) (drop framesAt t)) ≡ true
   pub frames : fine P true true (lasts frameWords (num t frameCountAt) (drop framesAt t)) ≡ true
+  pub work : num t workAt ≤ mostWork
+  pub tokens : num t tokensAt ≤ mostTokens
 
 module _ (t : List ℤ) (n : ℕ) (e : count t ≡ n) (some : 1 ≤ n) where
   frames-run : frames (threadOf t) ≡ reverse (map frameOf (runs frameWords n (drop framesAt t)))
@@ -210,15 +215,32 @@ no-frames : (t : List ℤ) → count t ≡ 0 → length (frames (threadOf t)) �
 unfolding threadOf runs
 no-frames t e = rw e
 
+-- the purse
+purse-is : (t : List ℤ) → threadOf t .purse ≡ purseOf t
+unfolding threadOf
+purse-is t =
+    restacked-purse (endowed (born (begin 0 [])) (purseOf t)) (reverse (map frameOf (runs frameWords (count t) (drop framesAt t))))
+
 -- what stands before the frames is written back as it was
+front : (t : List ℤ) → framesAt ≤ length t
+    → take framesAt t ≡ getD t frameCountAt (pos 0) ∷ getD t workAt (pos 0) ∷ getD t tokensAt (pos 0) ∷ []
+front [] h = absurd (omega arith)
+front (a ∷ []) h = absurd (omega arith)
+front (a ∷ b ∷ []) h = absurd (omega arith)
+front (a ∷ b ∷ c ∷ t) h = refl
+
 head-written : (t : List ℤ) → length t ≡ threadWords → length (frames (threadOf t)) ≡ num t frameCountAt → num t frameCountAt ≤ mostFrames
-    → threadHead (threadOf t) ≡ take framesAt t
-unfolding threadHead
-head-written t l e few =
+    → num t workAt ≤ mostWork → num t tokensAt ≤ mostTokens → threadHead (threadOf t) ≡ take framesAt t
+unfolding threadHead wordAt
+head-written t l e few w k =
     let c : pos (length (frames (threadOf t))) ≡ getD t frameCountAt (pos 0) =
     ap pos e ∙ sym (small (getD t frameCountAt (pos 0)) (omega arith))
     in
-    (λ i. c i ∷ []) ∙ sym (ap (take framesAt) (drop-cons t frameCountAt (pos 0) (omega arith)))
+    let worked = written-number (getD t workAt (pos 0)) (omega arith) in
+    let held = written-number (getD t tokensAt (pos 0)) (omega arith) in
+    let e = purse-is t in
+    (λ i. c i ∷ pos (e i .work) ∷ pos (e i .tokens) ∷ []) ∙ (λ i. getD t frameCountAt (pos 0) ∷ worked i ∷ held i ∷ [])
+    ∙ sym (front t (omega arith))
 
 module _ (P : Program) (t : List ℤ) (l : length t ≡ threadWords) where
   thread-tests : wordsOfThread (threadOf t) ≡ t → IsThread P (threadOf t) → ThreadTests P t
@@ -246,6 +268,10 @@ module _ (P : Program) (t : List ℤ) (l : length t ≡ threadWords) where
             few = omega arith;
             behind = rw c (r .behind);
             frames = rw c (upright-fine P _ _ each u);
+            work =
+                rw (plain-of (sym (thread-work (threadOf t)) ∙ ap (λ (r : List ℤ). getD r workAt (pos 0)) e)) (h .purse .work);
+            tokens =
+                rw (plain-of (sym (thread-tokens (threadOf t)) ∙ ap (λ (r : List ℤ). getD r tokensAt (pos 0)) e)) (h .purse .tokens);
           }
 
   module _ (h : ThreadTests P t) where
@@ -274,17 +300,25 @@ module _ (P : Program) (t : List ℤ) (l : length t ≡ threadWords) where
         runs-padded frameWords wordsOfFrame frameOf frame-sized mostFrames n body (h .few) (body-long t l)
         (record { each = s; behind = h .behind })
         in
-        let c = head-written t l (frames-long t n counted (h .some)) (h .few) in
+        let c = head-written t l (frames-long t n counted (h .some)) (h .few) (h .work) (h .tokens) in
         words-are t n counted (h .some) ∙ (λ i. c i ++ r i) ∙ take-append-drop framesAt t
 
     thread-is : IsThread P (threadOf t)
+    unfolding wordAt
     thread-is =
         let u =
         subst (Upright P) (sym (frames-are t (num t frameCountAt) counted (h .some)))
         (upright (num t frameCountAt) (h .some) (h .frames) .1)
         in
         let n = frames-long t (num t frameCountAt) counted (h .some) in
-        record { few = omega (arith, h .few); newest = u .0; older = u .1; order = u .2 }
+        record { few = omega (arith, h .few); newest = u .0; older = u .1; order = u .2; purse = subst IsPurse (sym (purse-is t)) own }
+      where
+        own : IsPurse (purseOf t)
+        own =
+            record {
+              work = rw (small-number (getD t workAt (pos 0)) (omega (arith, h .work))) (h .work);
+              tokens = rw (small-number (getD t tokensAt (pos 0)) (omega (arith, h .tokens))) (h .tokens);
+            }
 
   -- goodThread, as facts, and the other way round
   pub good-thread-tests : goodThread P t ≡ true → ThreadTests P t

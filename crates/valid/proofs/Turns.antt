@@ -6,18 +6,19 @@ use mathlib.Core.List.{List, _∷_}
 use native.Mathlib.Nat.{mul-comm, mul-suc}
 use native.Mathlib.Numerals.{add-one}
 use native.Mathlib.Omega.{arith}
-use lib.Dec.{eqb, ltb}
+use lib.Dec.{eqb, leb, ltb}
 use lib.IntN.{ℤ}
 use lib.ListN.{length, take, drop, length-drop}
 use lib.Seq.{take-all, drop-drop}
 use Rattle.model.specs.Lists.{all}
 use Rattle.model.specs.Syntax.{Program}
-use Rattle.model.specs.Pool.{mostFrames, mostThreads, doneAt, openedAt, promotedAt, frameWords, frameCountAt, framesAt, threadWords}
-use Rattle.model.specs.Pool.{threadCountAt, threadsAt, poolWords, frames, runs, threadOf, children, arePool}
-use Rattle.model.proofs.Facts.{true-false, lt-ltb, le-ltb, not-true, not-false}
+use Rattle.model.specs.Pool.{mostFrames, mostThreads, mostWork, mostTokens, doneAt, openedAt, promotedAt, frameWords, frameCountAt}
+use Rattle.model.specs.Pool.{workAt, tokensAt, framesAt, threadWords, threadCountAt, threadsAt, poolWords, frames, runs, threadOf, children, arePool}
+use Rattle.model.proofs.Facts.{true-false, lt-ltb, le-ltb, leb-true, le-leb, and-left, and-right, both-and, not-true, not-false}
 use Rattle.valid.specs.declared.Children.{Children}
 use Rattle.valid.specs.declared.Children.the-variants.{Are, Bad}
-use Rattle.valid.specs.Judged.{beyond, num, isZero, goodFrame, goodThread, lasts, fine, promotions, forest, follows, Answers, Few}
+use Rattle.valid.specs.Judged.{beyond, num, isZero, goodFrame, goodThread, lasts, fine, promotions, goodPurse, forest, follows}
+use Rattle.valid.specs.Judged.{Answers, Few}
 use Rattle.valid.proofs.Bools.{same-test, fails}
 use Rattle.valid.proofs.ThreadWords.{ThreadTests, good-thread-tests, tests-good-thread, child-count}
 use Rattle.valid.proofs.PoolWords.{PoolTests, pool-tests, tests-pool, pool-long}
@@ -111,6 +112,13 @@ module _ (P : Program) (t : List ℤ) (l : length t ≡ threadWords) where
   pub not-thread : (ThreadTests P t → ⊥) → goodThread P t ≡ false
   not-thread h = fails (goodThread P t) (λ e. h (good-thread-tests P t l e))
 
+  pub not-purse : (r : Bool) → r ≡ goodPurse t → not r ≡ true → goodThread P t ≡ false
+  not-purse r e b =
+      not-thread (λ h.
+      true-false r
+      (e ∙ both-and (leb (num t workAt) mostWork) _ (le-leb (num t workAt) mostWork (h .work)) (le-leb (num t tokensAt) mostTokens (h .tokens)))
+      (not-true r b))
+
   module _ (n : ℕ) (r : Bool) (e : n ≡ num t frameCountAt) (z : r ≡ all isZero (piece (framesAt + frameWords * n) threadWords t)) where
     zeros-are : r ≡ all isZero (drop (n * frameWords) (drop framesAt t))
     zeros-are = z ∙ ap (all isZero) (behind-runs framesAt frameWords n threadWords t l)
@@ -122,10 +130,14 @@ module _ (P : Program) (t : List ℤ) (l : length t ≡ threadWords) where
     abbrev Told : List ℤ → Children → Type 0
     Told ws a = Answers (fine P true true (lasts frameWords n ws)) (promotions (lasts frameWords n ws)) a
 
-    pub thread-answer : (a : Children) → (n ≡ 0 → ⊥) → n ≤ mostFrames → not r ≡ false → Told (piece framesAt threadWords t) a
+    pub thread-answer : (a : Children) → (n ≡ 0 → ⊥) → n ≤ mostFrames → (q : Bool) → q ≡ goodPurse t → not q ≡ false → not r ≡ false
+        → Told (piece framesAt threadWords t) a
         → Answers (goodThread P t) (children (frames (threadOf t))) a
-    thread-answer a some few b h = go a (subst (λ (q : List ℤ). Told q a) (to-end framesAt threadWords t l) h)
+    thread-answer a some few q u v b h = go a (subst (λ (q : List ℤ). Told q a) (to-end framesAt threadWords t l) h)
       where
+        purse : goodPurse t ≡ true
+        purse = sym u ∙ not-false q v
+
         go : (a : Children) → Told (drop framesAt t) a → Answers (goodThread P t) (children (frames (threadOf t))) a
         go (Are m) g =
             let tests : ThreadTests P t =
@@ -134,6 +146,8 @@ module _ (P : Program) (t : List ℤ) (l : length t ≡ threadWords) where
               few = omega arith;
               behind = rw (← e) (sym zeros-are ∙ not-false r b);
               frames = rw (← e) (g .0);
+              work = leb-true (num t workAt) mostWork (and-left (leb (num t workAt) mostWork) _ purse);
+              tokens = leb-true (num t tokensAt) mostTokens (and-right (leb (num t workAt) mostWork) _ purse);
             } in
             (tests-good-thread P t l tests, g .1 ∙ rw e (child-count P t l tests))
         go Bad g = not-thread (λ h. true-false (fine P true true (lasts frameWords n (drop framesAt t))) (rw e (h .frames)) g)

@@ -10,7 +10,8 @@ use lib.ListN.{length, getD, getElem?, take, drop}
 use Rattle.model.specs.Lists.{all}
 use Rattle.model.specs.Values.{same}
 use Rattle.model.specs.Syntax.{Block, Program}
-use Rattle.model.specs.Pool.{mostFrames, doneAt, openedAt, promotedAt, frameWords, threadWords, frames, runs, wordsOfFrame}
+use Rattle.model.specs.Pool.{mostFrames, mostWork, mostTokens, doneAt, openedAt, promotedAt, frameWords, workAt, tokensAt, threadWords}
+use Rattle.model.specs.Pool.{frames, runs, wordsOfFrame}
 use Rattle.model.specs.Pool.{wordsOfThread, frameOf, threadOf, sameWords, blockIn, isFrame, isThread, children, arePool}
 use Rattle.places.specs.Places.{spawnIn, Places}
 use Rattle.valid.specs.declared.Children.{Children}
@@ -68,6 +69,10 @@ fine P newest free (w ∷ ws) =
 unfoldable pub promotions : List (List ℤ) → ℕ
 promotions [] = 0
 promotions (w ∷ ws) = num w promotedAt + promotions ws
+
+-- a thread's work and tokens
+abbrev pub goodPurse : List ℤ → Bool
+goodPurse t = leb (num t workAt) mostWork && leb (num t tokensAt) mostTokens
 
 -- threads that are d trees, with nothing behind them
 unfoldable pub forest : Program → ℕ → List (List ℤ) → Bool

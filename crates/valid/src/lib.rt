@@ -5,8 +5,8 @@ ghost use lib.IntN.{pos};
 ghost use lib.ListN.{length, getD};
 ghost use Rattle.model.specs.Lists.{all};
 ghost use Rattle.model.specs.Pool.{blank, temporaries, mostFrames, mostThreads, frameWords, threadWords};
-ghost use Rattle.valid.specs.Judged.{isZero, IsNumber, JudgesPlace, JudgesCalls, follows, JudgesFrame, JudgesFrames, JudgesThread};
-ghost use Rattle.valid.specs.Judged.{JudgesTrees, JudgesPool};
+ghost use Rattle.valid.specs.Judged.{isZero, IsNumber, JudgesPlace, JudgesCalls, follows, JudgesFrame, JudgesFrames, goodPurse};
+ghost use Rattle.valid.specs.Judged.{JudgesThread, JudgesTrees, JudgesPool};
 use places::Place;
 use places::Places;
 use pool::Pool;
@@ -151,6 +151,14 @@ fn frames(s: &[u8], places: &Places, ws: &[i32], n: usize) -> Children
     Children::Are(sum)
 }
 
+// Are a thread's work and tokens within their limits?
+fn purse(t: &[i32]) -> bool
+    requires { ⌜ length (now t) ≡ threadWords ⌝ }
+    ensures { λ r. ⌜ r ≡ goodPurse (now (t .entry)) ⌝ }
+{
+    (number(t, Pool::WORK_AT) <= Pool::WORK) & (number(t, Pool::TOKENS_AT) <= Pool::TOKENS)
+}
+
 // Are the words a thread of the table?
 fn thread(s: &[u8], places: &Places, t: &[i32]) -> Children
     requires { ⌜ length (now t) ≡ threadWords ⌝ }
@@ -161,6 +169,9 @@ fn thread(s: &[u8], places: &Places, t: &[i32]) -> Children
         return Children::Bad;
     }
     if Pool::FRAMES < n {
+        return Children::Bad;
+    }
+    if !purse(t) {
         return Children::Bad;
     }
     let k = Pool::FRAMES_AT + Pool::FRAME_WORDS * n;

@@ -6,7 +6,7 @@ use oracle::tally::Tally;
 use oracle::Refusal;
 
 /// The header's constants and, below, its macros of a number answered.
-const POOL_WORDS: usize = 1673;
+const POOL_WORDS: usize = 1689;
 const OUTPUT_BYTES: usize = 16_384;
 const SCRATCH_WORDS: usize = 1_024;
 const PROMOTE: u32 = 1;

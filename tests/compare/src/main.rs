@@ -25,7 +25,7 @@ use oracle::gen::brief::{brief, Kind as BriefKind};
 use oracle::gen::calls::{self, Calling};
 use oracle::gen::faults::{self, Kind};
 use oracle::gen::loops::looping;
-use oracle::gen::{programs, scenario, Source, NOTES};
+use oracle::gen::{notes, programs, scenario, Source};
 use oracle::machine::{differences, tables_differ, Machine};
 use oracle::rng::Rng;
 use oracle::table::{Program, TABLE_MAX};
@@ -84,7 +84,7 @@ fn events() -> Vec<String> {
     events.extend(BriefKind::ALL.map(BriefKind::event));
     events.extend(watch::COMPLETED.map(String::from));
     events.extend(Source::ALL.map(|source| format!("scenario {source:?}")));
-    events.extend(NOTES.map(String::from));
+    events.extend(notes().into_iter().map(String::from));
     let others = [FULL_SIZE, PAIR, LONG, starts::EVENT];
     events.extend(laws::events());
     events.extend(sporks::events());

@@ -13,4 +13,4 @@ pub mod schedules;
 pub mod small;
 pub mod twins;
 
-pub use scenario::{scenario, Scenario, Source, NOTES};
+pub use scenario::{notes, scenario, Scenario, Source};

@@ -34,7 +34,7 @@ pub use rules::Rule;
 pub use table::{read, read_brief, Program};
 pub use tidy::tidy;
 
-/// Writes the start of a table's main into 1,673 words; refusals 1 to 3 and 12.
+/// Writes the start of a table's main into 1,689 words; refusals 1 to 3 and 12.
 pub fn start(table: &[u8], pool: &mut [i32]) -> Result<(), Refusal> {
     read(table)?;
     if pool.len() != POOL_WORDS {

@@ -1,20 +1,27 @@
-//! The pool as a tree of threads, and its form of 1,673 words.
+//! The pool as a tree of threads, and its form of 1,689 words.
 
 use crate::refusal::Refusal;
 use crate::table::{Function, Program};
 
 /// Words of a pool, of a thread and of a frame.
-pub const POOL_WORDS: usize = 1_673;
-pub const THREAD_WORDS: usize = 209;
+pub const POOL_WORDS: usize = 1_689;
+pub const THREAD_WORDS: usize = 211;
 pub const FRAME_WORDS: usize = 26;
-/// Words before a pool's threads and before a thread's frames: their numbers.
+/// Words before a pool's threads, their number, and before a thread's frames:
+/// their number and the purse.
 pub const POOL_HEAD: usize = 1;
-pub const THREAD_HEAD: usize = 1;
+pub const THREAD_HEAD: usize = 3;
+/// The words of a thread's purse, by their places within the thread.
+pub const WORK: usize = 1;
+pub const TOKENS: usize = 2;
 /// Limits of a pool.
 pub const MAX_THREADS: usize = 8;
 pub const MAX_FRAMES: usize = 8;
 pub const MAX_CALLS: usize = 4;
 pub const TEMPORARIES: usize = 16;
+/// The most that a purse holds.
+pub const MAX_WORK: u32 = 65_534;
+pub const MAX_TOKENS: u32 = 2_000_000_000;
 /// The words of a frame, by their places within it.
 pub const FUNCTION: usize = 0;
 pub const BLOCK: usize = 1;
@@ -47,6 +54,7 @@ pub struct Pool {
 /// A thread and its children.
 #[derive(Clone, Debug, Eq)]
 pub struct Thread {
+    pub purse: Purse,
     /// The call stack, oldest first, never empty.
     pub frames: Vec<Frame>,
     /// One child for each promoted call, oldest first.
@@ -58,8 +66,16 @@ pub struct Thread {
 /// Threads are the same whatever opened their calls.
 impl PartialEq for Thread {
     fn eq(&self, other: &Self) -> bool {
-        self.frames == other.frames && self.children == other.children
+        self.purse == other.purse && self.frames == other.frames && self.children == other.children
     }
+}
+
+/// What a thread has: the work done since it last earned, and tokens. No rule
+/// looks at it.
+#[derive(Clone, Copy, Debug, Default, PartialEq, Eq)]
+pub struct Purse {
+    pub work: u32,
+    pub tokens: u32,
 }
 
 #[derive(Clone, Debug, PartialEq, Eq)]
@@ -135,9 +151,10 @@ impl Frame {
 }
 
 impl Thread {
-    /// A thread without children at the entry of a function.
+    /// A thread without children at the entry of a function, its purse empty.
     pub fn entering(function: usize, arguments: &[i32]) -> Self {
         Thread {
+            purse: Purse::default(),
             frames: vec![Frame::entering(function, arguments)],
             children: Vec::new(),
             opened: None,
@@ -206,7 +223,7 @@ impl Pool {
         self.root.find(&mut ahead)
     }
 
-    /// The pool that 1,673 words hold for a program; refusals 12 and 13.
+    /// The pool that 1,689 words hold for a program; refusals 12 and 13.
     pub fn from_words(program: &Program, words: &[i32]) -> Result<Self, Refusal> {
         if words.len() != POOL_WORDS {
             return Err(Refusal::plain(12));
@@ -214,7 +231,7 @@ impl Pool {
         parse_pool(program, words).ok_or(Refusal::plain(13))
     }
 
-    /// The pool's 1,673 words.
+    /// The pool's 1,689 words.
     pub fn to_words(&self) -> Vec<i32> {
         let threads = self.threads();
         let mut words = vec![word(threads.len())];
@@ -225,9 +242,9 @@ impl Pool {
     }
 }
 
-/// A small count or number as a word.
+/// A count or number as a word.
 fn word(number: usize) -> i32 {
-    i32::try_from(number).expect("a pool's numbers are small")
+    i32::try_from(number).expect("a pool's numbers are words")
 }
 
 /// Words filled up with 0 to a length.
@@ -237,7 +254,10 @@ fn padded(mut words: Vec<i32>, length: usize) -> Vec<i32> {
 }
 
 fn thread_words(thread: &Thread) -> Vec<i32> {
+    let Purse { work, tokens } = thread.purse;
+    let purse = [work, tokens].map(|amount| word(amount as usize));
     let mut words = vec![word(thread.frames.len())];
+    words.extend(purse);
     words.extend(thread.frames.iter().flat_map(frame_words));
     words
 }
@@ -288,34 +308,43 @@ fn used_parts(words: &[i32], used: usize, length: usize) -> Option<Vec<&[i32]>> 
 fn parse_pool(program: &Program, words: &[i32]) -> Option<Pool> {
     let (&first, rest) = words.split_first()?;
     let threads = used_parts(rest, count(first, MAX_THREADS)?, THREAD_WORDS)?;
-    let stacks: Vec<Vec<Frame>> = threads
+    let listed: Vec<(Purse, Vec<Frame>)> = threads
         .into_iter()
-        .map(|thread| parse_stack(program, thread))
+        .map(|thread| Some((parse_purse(thread)?, parse_stack(program, thread)?)))
         .collect::<Option<_>>()?;
-    let mut stacks = stacks.into_iter();
-    let root = grow_tree(&mut stacks)?;
-    stacks.next().is_none().then_some(Pool { root })
+    let mut listed = listed.into_iter();
+    let root = grow_tree(&mut listed)?;
+    listed.next().is_none().then_some(Pool { root })
 }
 
-/// Takes one tree from the listed call stacks.
-fn grow_tree(stacks: &mut impl Iterator<Item = Vec<Frame>>) -> Option<Thread> {
-    let frames = stacks.next()?;
+/// Takes one tree from the listed purses and call stacks.
+fn grow_tree(listed: &mut impl Iterator<Item = (Purse, Vec<Frame>)>) -> Option<Thread> {
+    let (purse, frames) = listed.next()?;
     let promoted: usize = frames.iter().map(|frame| frame.promoted).sum();
     let mut children = Vec::new();
     for _ in 0..promoted {
-        children.push(grow_tree(stacks)?);
+        children.push(grow_tree(listed)?);
     }
     children.reverse();
     Some(Thread {
+        purse,
         frames,
         children,
         opened: None,
     })
 }
 
-fn parse_stack(program: &Program, words: &[i32]) -> Option<Vec<Frame>> {
-    let (&first, rest) = words.split_first()?;
-    let frames: Vec<Frame> = used_parts(rest, count(first, MAX_FRAMES)?, FRAME_WORDS)?
+fn parse_purse(thread: &[i32]) -> Option<Purse> {
+    let amount = |at: usize, most: u32| u32::try_from(thread[at]).ok().filter(|&n| n <= most);
+    Some(Purse {
+        work: amount(WORK, MAX_WORK)?,
+        tokens: amount(TOKENS, MAX_TOKENS)?,
+    })
+}
+
+fn parse_stack(program: &Program, thread: &[i32]) -> Option<Vec<Frame>> {
+    let (head, rest) = thread.split_at(THREAD_HEAD);
+    let frames: Vec<Frame> = used_parts(rest, count(head[0], MAX_FRAMES)?, FRAME_WORDS)?
         .into_iter()
         .map(|frame| parse_frame(program, frame))
         .collect::<Option<_>>()?;

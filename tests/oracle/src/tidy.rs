@@ -244,6 +244,7 @@ impl Numbering {
 
     fn thread(&self, old: &Thread) -> Thread {
         Thread {
+            purse: old.purse,
             frames: old.frames.iter().map(|frame| self.frame(frame)).collect(),
             children: old
                 .children

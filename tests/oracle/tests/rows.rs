@@ -171,6 +171,59 @@ fn rows_12_and_13() {
     assert_eq!(Refusal::plain(13).place, Place::Nowhere);
 }
 
+/// The two words behind a thread's frame count: within their ranges in a used
+/// thread, 0 in an unused one.
+#[test]
+fn row_13_of_purses() {
+    let (work, tokens, unused) = (2, 3, 1 + 211);
+    let answer = |place: usize, word: i32| {
+        let mut pool = started(&A);
+        pool[place] = word;
+        let left = pool.clone();
+        let given = choose(&A, &mut pool, 0, 0).map_err(|refusal| refusal.number);
+        let kept = if given.is_ok() {
+            pool[place] == word
+        } else {
+            pool == left
+        };
+        assert!(kept, "{word} at {place}");
+        given.map(Rule::number)
+    };
+    for word in [0, 1, 65_534] {
+        assert_eq!(answer(work, word), Ok(1));
+    }
+    for word in [0, 1, 65_535, 2_000_000_000] {
+        assert_eq!(answer(tokens, word), Ok(1));
+    }
+    for word in [65_535, -1, i32::MIN, i32::MAX] {
+        assert_eq!(answer(work, word), Err(13));
+    }
+    for word in [2_000_000_001, -1, i32::MIN, i32::MAX] {
+        assert_eq!(answer(tokens, word), Err(13));
+    }
+    for word in [1, -1, 65_534, i32::MIN] {
+        assert_eq!(answer(unused + 1, word), Err(13));
+        assert_eq!(answer(unused + 2, word), Err(13));
+    }
+}
+
+/// A child has 0 and 0, purses move with their threads, and a join drops that of
+/// the child.
+#[test]
+fn purses_of_plain_choices() {
+    let table = encode(&b());
+    let mut pool = started(&table);
+    let purses = |pool: &[i32]| [2, 3, 213, 214].map(|at| pool[at]);
+    assert_eq!(purses(&pool), [0; 4]);
+    (pool[2], pool[3]) = (7, 8);
+    assert_eq!(schedule(&table, &mut pool, &[(0, 0), (1, 0)]), (2, None));
+    assert_eq!(purses(&pool), [7, 8, 0, 0]);
+    (pool[213], pool[214]) = (5, 6);
+    assert_eq!(schedule(&table, &mut pool, &[(0, 1), (0, 0)]), (2, None));
+    assert_eq!(purses(&pool), [7, 8, 0, 0]);
+    assert_eq!(values(&table, &pool), Ok(Some(vec![7])));
+}
+
 #[test]
 fn rows_14_to_16() {
     assert_eq!(answers(&A, &[(2, 0), (2, 9)]), [Err(14), Err(14)]);

@@ -1,7 +1,7 @@
 //! Which words are a pool of a table.
 
+use super::layout::{Pool, FRAME, FRAMES, THREAD, TOKENS, TOKENS_MAX, WORK, WORK_MAX};
 use super::places::Places;
-use super::Pool;
 
 /// Are the words a pool of the table?
 pub fn is_pool(table: &[u8], places: &Places, pool: &Pool) -> bool {
@@ -9,9 +9,9 @@ pub fn is_pool(table: &[u8], places: &Places, pool: &Pool) -> bool {
     if !(1..=8).contains(&threads) {
         return false;
     }
-    let (used, unused) = pool[1..].split_at(209 * threads as usize);
+    let (used, unused) = pool[1..].split_at(THREAD * threads as usize);
     let mut due = 1;
-    for thread in used.chunks_exact(209) {
+    for thread in used.chunks_exact(THREAD) {
         if due == 0 {
             return false;
         }
@@ -34,10 +34,13 @@ fn children(table: &[u8], places: &Places, thread: &[i32]) -> Option<i32> {
     if !(1..=8).contains(&count) {
         return None;
     }
-    let (used, unused) = thread[1..].split_at(26 * count as usize);
+    if !(0..=WORK_MAX).contains(&thread[WORK]) || !(0..=TOKENS_MAX).contains(&thread[TOKENS]) {
+        return None;
+    }
+    let (used, unused) = thread[FRAMES..].split_at(FRAME * count as usize);
     let mut promoted = 0;
     let mut unpromoted = 0;
-    for (j, frame) in used.chunks_exact(26).enumerate() {
+    for (j, frame) in used.chunks_exact(FRAME).enumerate() {
         let newest = j + 1 == count as usize;
         if !is_frame(table, places, frame.try_into().ok()?) {
             return None;
@@ -51,7 +54,7 @@ fn children(table: &[u8], places: &Places, thread: &[i32]) -> Option<i32> {
     zeros(unused).then_some(promoted)
 }
 
-fn is_frame(t: &[u8], places: &Places, frame: &[i32; 26]) -> bool {
+fn is_frame(t: &[u8], places: &Places, frame: &[i32; FRAME]) -> bool {
     let [function, block, done, bound, open, promoted] = *frame.first_chunk().expect("26 words");
     if !(0..=4).contains(&open) || !(0..=open).contains(&promoted) {
         return false;

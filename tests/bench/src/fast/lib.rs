@@ -5,6 +5,7 @@ mod check;
 mod complete;
 mod depth;
 mod judge;
+mod layout;
 mod machine;
 mod places;
 mod read;
@@ -14,17 +15,15 @@ mod tidy;
 pub use check::check;
 pub use complete::complete;
 pub use depth::depth;
+pub use layout::POOL_WORDS;
 pub use machine::Fast;
 pub use tidy::tidy;
 
 use judge::is_pool;
+use layout::Pool;
 use places::Places;
 use read::read_into;
 use rules::Code;
-
-/// A pool's length in words, and a pool.
-pub const POOL_WORDS: usize = 1673;
-type Pool = [i32; POOL_WORDS];
 
 /// A choice of a schedule: a kind and a thread.
 #[derive(Clone, Copy, Debug, PartialEq, Eq)]

@@ -1,11 +1,8 @@
 //! The rules on a valid pool, in place: what a step does is found first, then
 //! written.
 
+use super::layout::{start_of, Pool, FRAME, FRAMES, THREAD};
 use super::places::Places;
-use super::Pool;
-
-const FRAME: usize = 26;
-const THREAD: usize = 209;
 
 /// Words of a frame.
 const FUNCTION: usize = 0;
@@ -57,8 +54,8 @@ pub struct Code<'a> {
 /// Where a thread's newest frame begins.
 #[inline(always)]
 fn newest(pool: &Pool, thread: usize) -> usize {
-    let at = 1 + THREAD * thread;
-    at + 1 + FRAME * (pool[at] as usize - 1)
+    let at = start_of(thread);
+    at + FRAMES + FRAME * (pool[at] as usize - 1)
 }
 
 #[inline(always)]
@@ -112,10 +109,10 @@ impl<'a> Code<'a> {
 
     /// The values of an ended thread.
     pub fn ended(self, pool: &Pool, thread: usize) -> Option<Values> {
-        if pool[1 + THREAD * thread] != 1 {
+        if pool[start_of(thread)] != 1 {
             return None;
         }
-        let frame = frame(pool, 2 + THREAD * thread);
+        let frame = frame(pool, start_of(thread) + FRAMES);
         let (at, left) = self.next(frame);
         if left || self.t[at] != 3 || frame[OPEN] != 0 {
             return None;
@@ -278,7 +275,7 @@ impl<'a> Code<'a> {
                 self.calling(t[first], values.count)?;
                 let back = t[first + 2 + values.count];
                 self.places.block(f, back.into()).ok_or(STUCK)?;
-                if pool[1 + THREAD * thread] == 8 {
+                if pool[start_of(thread)] == 8 {
                     return Err(18);
                 }
                 Ok(Act::Call(t[first], back, values))
@@ -288,7 +285,7 @@ impl<'a> Code<'a> {
                 if own[OPEN] != 0 {
                     return Err(STUCK);
                 }
-                if pool[1 + THREAD * thread] == 1 {
+                if pool[start_of(thread)] == 1 {
                     return Err(16);
                 }
                 let caller = frame(pool, start - FRAME);
@@ -339,13 +336,13 @@ impl<'a> Code<'a> {
             }
             Act::Call(function, back, values) => {
                 jump(own, back);
-                pool[1 + THREAD * thread] += 1;
+                pool[start_of(thread)] += 1;
                 begin(frame_mut(pool, start + FRAME), function, &values);
                 5
             }
             Act::Return(parameters, values) => {
                 own.fill(0);
-                pool[1 + THREAD * thread] -= 1;
+                pool[start_of(thread)] -= 1;
                 self.bind(frame_mut(pool, start - FRAME), parameters, &values);
                 6
             }
@@ -374,10 +371,9 @@ impl<'a> Code<'a> {
     /// The oldest unpromoted call of a thread becomes a thread behind it.
     #[inline]
     fn promote(self, pool: &mut Pool, thread: usize) -> Result<u8, u8> {
-        let first = 2 + THREAD * thread;
-        let frames = pool[first - 1] as usize;
-        let holder = (0..frames)
-            .map(|j| first + FRAME * j)
+        let own = start_of(thread);
+        let holder = (0..pool[own] as usize)
+            .map(|j| own + FRAMES + FRAME * j)
             .find(|&at| pool[at + PROMOTED] < pool[at + OPEN])
             .ok_or(20)?;
         if pool[0] == 8 {
@@ -394,9 +390,9 @@ impl<'a> Code<'a> {
         self.calling(function, values.count)?;
         pool[holder + PROMOTED] += 1;
         insert(pool, thread + 1);
-        let at = 1 + THREAD * (thread + 1);
-        pool[at] = 1;
-        begin(frame_mut(pool, at + 1), function, &values);
+        let child = start_of(thread + 1);
+        pool[child] = 1;
+        begin(frame_mut(pool, child + FRAMES), function, &values);
         Ok(10)
     }
 }
@@ -418,8 +414,8 @@ fn close(frame: &mut Frame) {
 
 /// The threads from a number on move up, and its words are cleared.
 fn insert(pool: &mut Pool, thread: usize) {
-    let at = 1 + THREAD * thread;
-    let end = 1 + THREAD * pool[0] as usize;
+    let at = start_of(thread);
+    let end = start_of(pool[0] as usize);
     pool.copy_within(at..end, at + THREAD);
     pool[at..at + THREAD].fill(0);
     pool[0] += 1;
@@ -427,8 +423,8 @@ fn insert(pool: &mut Pool, thread: usize) {
 
 /// The threads behind a number move down over it.
 fn remove(pool: &mut Pool, thread: usize) {
-    let at = 1 + THREAD * thread;
-    let end = 1 + THREAD * pool[0] as usize;
+    let at = start_of(thread);
+    let end = start_of(pool[0] as usize);
     pool.copy_within(at + THREAD..end, at);
     pool[end - THREAD..end].fill(0);
     pool[0] -= 1;

@@ -12,11 +12,11 @@ use oracle::gen::loops::looping;
 use oracle::gen::schedules::{guided_choice, Choice, Policy};
 use oracle::gen::small::small;
 use oracle::gen::twins::twin;
-use oracle::gen::{bytes, programs, scenario, Scenario};
+use oracle::gen::{bytes, pools, programs, scenario, Scenario};
 use oracle::graph::live;
 use oracle::machine::{complete_differs, differences, unwritten, Oracle};
 use oracle::openers::Openers;
-use oracle::pool::{Frame, Pool, MAX_FRAMES};
+use oracle::pool::{Frame, Pool, Purse, MAX_FRAMES};
 use oracle::rng::Rng;
 use oracle::rules::{self, ended, gather, Rule, PROMOTE, STEP};
 use oracle::table::{Function, Program, MAX_FUNCTIONS, TABLE_MAX};
@@ -102,6 +102,8 @@ fn events() -> Vec<String> {
     events.extend(watch::TIDIED.map(String::from));
     events.extend(brief::Kind::ALL.map(brief::Kind::event));
     events.extend(watch::COMPLETED.map(String::from));
+    events.extend(pools::EDGES.map(String::from));
+    events.extend(pools::NO_PURSES.map(String::from));
     events.extend(
         [
             "run that returned",
@@ -117,6 +119,7 @@ fn events() -> Vec<String> {
             NONE_PASSES,
             LATER_PASSES,
             HANDED,
+            KEPT,
         ]
         .map(String::from),
     );
@@ -124,6 +127,7 @@ fn events() -> Vec<String> {
 }
 
 const HANDED: &str = "child with the values of its spork";
+const KEPT: &str = "choice that keeps purses";
 
 const BY_PATHS: &str = "depth by all paths";
 const BY_ROUNDS: &str = "depth by rounds alone";
@@ -573,7 +577,7 @@ fn check_join(tally: &mut Tally, program: &Program, pool: &mut Pool, (kind, thre
 }
 
 /// What every answer to a choice must be: a refusal changes nothing, a rule
-/// leaves a valid pool of the right size.
+/// leaves a valid pool of the right size, and each thread that stays its purse.
 fn check_answer(
     tally: &mut Tally,
     program: &Program,
@@ -614,6 +618,35 @@ fn check_answer(
     tally.expect(grown == (threads, frames), || {
         format!("{rule:?} grows threads and frames by {grown:?}")
     });
+    let (mut due, left) = (purses(before), purses(after));
+    let behind = thread as usize + 1;
+    match rule {
+        Rule::Promote => due.insert(behind, Purse::default()),
+        Rule::Prom => _ = due.remove(behind),
+        _ => {}
+    }
+    tally.expect(left == due, || {
+        format!("{rule:?} leaves the purses {left:?}")
+    });
+    if due.iter().any(|purse| *purse != Purse::default()) {
+        tally.event(KEPT);
+    }
+}
+
+/// The purses of a pool, thread by thread.
+fn purses(pool: &Pool) -> Vec<Purse> {
+    let threads = pool.threads();
+    threads.iter().map(|thread| thread.purse).collect()
+}
+
+/// A pool with every purse empty.
+fn penniless(pool: &Pool) -> Pool {
+    let mut pool = pool.clone();
+    for number in 0..pool.size() {
+        let thread = pool.thread_mut(number).expect("a thread below the size");
+        thread.purse = Purse::default();
+    }
+    pool
 }
 
 fn frame_count(pool: &Pool) -> i32 {
@@ -708,12 +741,32 @@ fn check_scenario(tally: &mut Tally, input: &Scenario) {
     check_depth(tally, &input.table);
     check_untidy(tally, &input.table);
     check_start(tally, input);
+    check_purses(tally, input);
     match decode(input) {
         Err(refusal) => check_undecoded(tally, input, refusal),
         Ok((program, pool)) => {
             check_questions(tally, input, &program, &pool);
             check_choices(tally, input, &program, &pool);
             check_schedule(tally, input);
+        }
+    }
+}
+
+/// A word of a purse that is none gets 13, where the table reads.
+fn check_purses(tally: &mut Tally, input: &Scenario) {
+    if oracle::read(&input.table).is_err() {
+        return;
+    }
+    for note in &input.notes {
+        if pools::NO_PURSES.contains(note) {
+            let refused = decode(input).map(|_| ());
+            tally.expect(refused == Err(Refusal::plain(13)), || {
+                format!("{note}: {refused:?} given")
+            });
+            tally.event(note);
+        }
+        if pools::EDGES.contains(note) && decode(input).is_ok() {
+            tally.event(note);
         }
     }
 }
@@ -803,6 +856,11 @@ fn check_choices(tally: &mut Tally, input: &Scenario, program: &Program, pool: &
             format!("{choice:?}: a refusal changed the words")
         });
         check_answer(tally, program, pool, &after, choice, &answer);
+        let mut poor = penniless(pool);
+        let other = rules::choose(program, &mut poor, choice.0, choice.1);
+        tally.expect(other == answer && poor == penniless(&after), || {
+            format!("{choice:?}: {answer:?}, and {other:?} with empty purses")
+        });
     }
 }
 

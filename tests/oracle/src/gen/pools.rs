@@ -2,8 +2,8 @@
 
 use crate::gen::schedules::{guided_choice, Policy};
 use crate::pool::{
-    frame_start, thread_start, Frame, OpenCall, Pool, Thread, FRAME_WORDS, MAX_CALLS, MAX_FRAMES,
-    MAX_THREADS, POOL_WORDS, TEMPORARIES,
+    frame_start, thread_start, Frame, OpenCall, Pool, Purse, Thread, FRAME_WORDS, MAX_CALLS,
+    MAX_FRAMES, MAX_THREADS, MAX_TOKENS, MAX_WORK, POOL_WORDS, TEMPORARIES, TOKENS, WORK,
 };
 use crate::rng::Rng;
 use crate::rules::choose;
@@ -45,6 +45,7 @@ fn loose_tree(rng: &mut Rng, program: &Program, size: usize) -> Thread {
     if children.is_empty() && rng.chance(40) {
         if let Some(frame) = ended_frame(rng, program) {
             return Thread {
+                purse: Purse::default(),
                 frames: vec![frame],
                 children,
                 opened: None,
@@ -52,6 +53,7 @@ fn loose_tree(rng: &mut Rng, program: &Program, size: usize) -> Thread {
         }
     }
     Thread {
+        purse: Purse::default(),
         frames: loose_stack(rng, program, children.len()),
         children,
         opened: None,
@@ -137,6 +139,94 @@ fn loose_frame(rng: &mut Rng, program: &Program, promoted: usize, unpromoted: us
             .collect(),
         promoted,
     }
+}
+
+/// Gives every thread of a pool any purse.
+pub fn fill_purses(rng: &mut Rng, pool: &mut Pool) {
+    for number in 0..pool.size() {
+        let thread = pool.thread_mut(number).expect("a thread below the size");
+        thread.purse = any_purse(rng);
+    }
+}
+
+/// A purse that a pool may have: amounts at the edges, near them and between.
+fn any_purse(rng: &mut Rng) -> Purse {
+    let few = rng.below(600) as u32;
+    let work = rng.below(MAX_WORK as usize + 1) as u32;
+    let tokens = rng.below(MAX_TOKENS as usize + 1) as u32;
+    Purse {
+        work: rng.one_of([0, 1, few, MAX_WORK - 1, MAX_WORK, work]),
+        tokens: rng.one_of([0, 1, few % 16, MAX_TOKENS - few, MAX_TOKENS, tokens]),
+    }
+}
+
+/// The edges of what purses of a lent pool hold, by name.
+pub const EDGES: [&str; 5] = [
+    "thread lent with work 0",
+    "thread lent with work 65534",
+    "thread lent with 0 tokens",
+    "thread lent with 1 token",
+    "thread lent with 2000000000 tokens",
+];
+
+/// The edges at which some purse of a pool is.
+pub fn edges(pool: &Pool) -> Vec<&'static str> {
+    let threads = pool.threads();
+    let some = |holds: fn(&Purse) -> bool| threads.iter().any(|thread| holds(&thread.purse));
+    let holds = [
+        some(|purse| purse.work == 0),
+        some(|purse| purse.work == MAX_WORK),
+        some(|purse| purse.tokens == 0),
+        some(|purse| purse.tokens == 1),
+        some(|purse| purse.tokens == MAX_TOKENS),
+    ];
+    let held = EDGES.into_iter().zip(holds);
+    held.filter_map(|(edge, held)| held.then_some(edge))
+        .collect()
+}
+
+/// The ways in which a word of a purse is none, by name.
+pub const NO_PURSES: [&str; 12] = [
+    "work 65535",
+    "work 2147483647",
+    "work -1",
+    "work -2147483648",
+    "tokens 2000000001",
+    "tokens 2147483647",
+    "tokens -1",
+    "tokens -2147483648",
+    "work 1 of an unused thread",
+    "tokens 1 of an unused thread",
+    "work -1 of an unused thread",
+    "tokens -1 of an unused thread",
+];
+
+/// Sets a word of a purse to what it never is, and gives the way by name; none
+/// where the pool has no unused thread for it. All else stays.
+pub fn break_purse(rng: &mut Rng, pool: &Pool, words: &mut [i32]) -> Option<&'static str> {
+    let used = pool.size();
+    let way = rng.below(NO_PURSES.len());
+    let thread = match way {
+        0..=7 => rng.below(used),
+        _ if used == MAX_THREADS => return None,
+        _ => rng.between(used, MAX_THREADS - 1),
+    };
+    let (place, word) = [
+        (WORK, MAX_WORK as i32 + 1),
+        (WORK, i32::MAX),
+        (WORK, -1),
+        (WORK, i32::MIN),
+        (TOKENS, MAX_TOKENS as i32 + 1),
+        (TOKENS, i32::MAX),
+        (TOKENS, -1),
+        (TOKENS, i32::MIN),
+        (WORK, 1),
+        (TOKENS, 1),
+        (WORK, -1),
+        (TOKENS, -1),
+    ][way];
+    words[thread_start(thread) + place] = word;
+    Some(NO_PURSES[way])
 }
 
 /// Breaks one condition of a pool in one thread; the words may still hold a
@@ -246,7 +336,10 @@ fn telling_place(rng: &mut Rng, words: &[i32]) -> usize {
     let within = start + rng.below(FRAME_WORDS);
     let early = start + rng.below(10);
     let any = rng.below(POOL_WORDS);
-    rng.one_of([0, at, at, within, within, early, early, early, early, any])
+    let purse = at + rng.one_of([WORK, TOKENS]);
+    rng.one_of([
+        0, at, at, purse, within, within, early, early, early, early, any,
+    ])
 }
 
 /// Changes one word of a pool.

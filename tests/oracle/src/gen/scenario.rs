@@ -31,13 +31,18 @@ impl Source {
 }
 
 /// Where a scenario's words and choices come from, by name.
-pub const NOTES: [&str; 10] = [
-    START, REACHED, ANY_POOL, BROKEN, CHANGED, FILLED, ARBITRARY, RESIZED, GUIDED, BLIND,
+pub fn notes() -> Vec<&'static str> {
+    [&SOURCES[..], &pools::EDGES, &pools::NO_PURSES].concat()
+}
+
+const SOURCES: [&str; 11] = [
+    START, REACHED, ANY_POOL, PURSES, BROKEN, CHANGED, FILLED, ARBITRARY, RESIZED, GUIDED, BLIND,
 ];
 
 const START: &str = "pool at the start";
 const REACHED: &str = "pool reached by a run";
 const ANY_POOL: &str = "pool of any kind";
+const PURSES: &str = "pool with any purses";
 const BROKEN: &str = "pool with a condition broken";
 const CHANGED: &str = "pool with one word changed";
 const FILLED: &str = "pool with an unused word set";
@@ -50,7 +55,7 @@ const BLIND: &str = "blind schedule";
 #[derive(Clone, Debug)]
 pub struct Scenario {
     pub source: Source,
-    /// Some of `NOTES`.
+    /// Some of `notes()`.
     pub notes: Vec<&'static str>,
     pub table: Vec<u8>,
     /// More tables, faulty or spoiled, to be read and checked only.
@@ -130,12 +135,16 @@ fn pool_and_choices(
     notes: &mut Vec<&'static str>,
 ) -> (Pool, Vec<Choice>) {
     let length = rng.below(60);
-    let (note, pool) = match rng.below(4) {
+    let (note, mut pool) = match rng.below(4) {
         0 => (START, Pool::start()),
         1 => (REACHED, pools::reached(rng, program, length)),
         _ => (ANY_POOL, pools::loose(rng, program)),
     };
     notes.push(note);
+    if rng.chance(70) {
+        pools::fill_purses(rng, &mut pool);
+        notes.push(PURSES);
+    }
     if !rng.chance(60) {
         notes.push(BLIND);
         return (pool, blind_schedule(rng));
@@ -157,7 +166,7 @@ fn spoil_some(
     mut pool: Pool,
     notes: &mut Vec<&'static str>,
 ) -> Vec<i32> {
-    let what = rng.below(20);
+    let what = rng.below(22);
     if what < 4 {
         pools::spoil(rng, program, &mut pool);
     }
@@ -180,7 +189,14 @@ fn spoil_some(
             words.resize(rng.one_of([0, 1, POOL_WORDS - 1, POOL_WORDS + 1]), 0);
             RESIZED
         }
-        _ => return words,
+        10..=12 => match pools::break_purse(rng, &pool, &mut words) {
+            Some(way) => way,
+            None => return words,
+        },
+        _ => {
+            notes.extend(pools::edges(&pool));
+            return words;
+        }
     };
     notes.push(note);
     words
