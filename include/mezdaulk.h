@@ -6,12 +6,12 @@
  * read such an answer; each evaluates its argument once.
  *
  * A table is any bytes and a pool any words: nothing outside the lent memory is read or written, and every call returns. Tables,
- * schedules and pools that are only asked about are never written. No call keeps anything: calls on different pools may run at
- * the same time; two calls on one pool may not, if either of them writes it. Lent regions that a call writes must not overlap
+ * schedules, lists of threads and pools that are only asked about are never written. No call keeps anything: calls on different pools
+ * may run at the same time; two calls on one pool may not, if either of them writes it. Lent regions that a call writes must not overlap
  * others of the same call.
  *
- * A pointer with a count beside it (table, pool, choices, out, scratch) must be valid for that many items and aligned for their type.
- * With a count of 0 it may be anything, NULL too. values and made have no count and must be valid in every call.
+ * A pointer with a count beside it (table, pool, choices, threads, out, scratch) must be valid for that many items and aligned for their
+ * type. With a count of 0 it may be anything, NULL too. values and made have no count and must be valid in every call.
  */
 #ifndef MEZDAULK_H
 #define MEZDAULK_H
@@ -42,11 +42,15 @@ extern "C" {
 /* The value of a given answer. */
 #define MEZDAULK_VALUE(answer) ((uint32_t)((uint64_t)(answer) & 0xFFFFFFFFu))
 
-/* The number of a refusal, 1 to 26; the place of a 3; the function and the block of 4 to 11, 25 and 26. */
+/* The number of a refusal, 1 to 27; the place of a 3; the function and the block of 4 to 11, 25 and 26. */
 #define MEZDAULK_NUMBER(answer) ((unsigned)((uint64_t)(answer) & 0xFFu))
 #define MEZDAULK_PLACE(answer) ((unsigned)(((uint64_t)(answer) >> 8) & 0xFFFFFFu))
 #define MEZDAULK_BLOCK(answer) ((unsigned)(((uint64_t)(answer) >> 8) & 0xFFu))
 #define MEZDAULK_FUNCTION(answer) ((unsigned)(((uint64_t)(answer) >> 16) & 0xFFu))
+
+/* The parts of the value of mezdaulk_beat: the rule of its step, and how many promotions it made. */
+#define MEZDAULK_RULE(answer) ((unsigned)((uint64_t)(answer) & 0xFFu))
+#define MEZDAULK_PROMOTIONS(answer) ((unsigned)(((uint64_t)(answer) >> 8) & 0xFFFFFFu))
 
 /* The block of a fault that lies in none: main's, a spawn call's, or a whole function's. */
 #define MEZDAULK_NOWHERE 255u
@@ -88,10 +92,12 @@ extern "C" {
 #define MEZDAULK_REFUSED_CYCLE 22u    /* some function reaches itself by calls */
 /* of the tidy table, */
 #define MEZDAULK_REFUSED_ROOM 23u     /* the output is shorter than the tidy table */
-/* and of a completion. */
+/* of a completion, */
 #define MEZDAULK_REFUSED_LENT 24u       /* the scratch has fewer than 1,024 words, or the output has not 16,384 bytes */
 #define MEZDAULK_REFUSED_UNREACHED 25u  /* no transfer from its function's entry reaches a block */
 #define MEZDAULK_REFUSED_IMPOSSIBLE 26u /* no scopes and nestings make a function well formed */
+/* and of a beat. */
+#define MEZDAULK_REFUSED_PACE 27u /* N is not 1 to 65,535, or C not 1 to 255 */
 
 /* The rules that a choice makes: 1 to 9 by a step, 10 by a promotion. */
 #define MEZDAULK_RULE_STMT 1u     /* a statement */
@@ -145,7 +151,8 @@ uint64_t mezdaulk_complete(const uint8_t *table, size_t bytes, uint8_t *out, siz
  * as they were. */
 uint64_t mezdaulk_start(const uint8_t *table, size_t bytes, int32_t *pool, size_t words);
 
-/* One choice, made in place. Given: the rule, 1 to 10. Refused: 1 to 3, 12 to 21; the words are then as they were. */
+/* One choice, made in place. Given: the rule, 1 to 10. Refused: 1 to 3, 12 to 21; the words are then as they were. A choice leaves the
+ * work and the tokens of every thread that stays: a child begins with none, and those of a child that is joined go with it. */
 uint64_t mezdaulk_choose(const uint8_t *table, size_t bytes, int32_t *pool, size_t words, uint32_t kind, uint32_t thread);
 
 /* Which thread can step? Given: a thread whose step makes a rule, or MEZDAULK_NO_THREAD exactly if there is none. Refused: 1 to
@@ -161,6 +168,21 @@ uint64_t mezdaulk_values(const uint8_t *table, size_t bytes, const int32_t *pool
  * they did stays in the pool. */
 uint64_t mezdaulk_schedule(const uint8_t *table, size_t bytes, int32_t *pool, size_t words,
                            const struct mezdaulk_choice *choices, size_t count, uint64_t *made);
+
+/* One beat, made in place: a step of a thread that earns and spends tokens, c of them for every n steps. Where the step is made, the
+ * tokens of the child that it joined come to the thread. Its work grows by 1, and where that is n or more it returns to 0 and c tokens
+ * come; what would be above 2,000,000,000 is dropped. Then, as long as the thread has a token and a promotion of it would be made, that
+ * is made for one token, and half of those left, rounded down, go to the child. Given: the rule of the step, 1 to 9, and 256 times the
+ * number of promotions, 0 to 7, which MEZDAULK_RULE and MEZDAULK_PROMOTIONS read. Refused: 1 to 3, 12, 13, 27, and 15 to 19 as a step
+ * is; the words are then as they were. */
+uint64_t mezdaulk_beat(const uint8_t *table, size_t bytes, int32_t *pool, size_t words, uint32_t thread, uint32_t n, uint32_t c);
+
+/* A run: a beat of each thread of a list, all with one n and one c, made in place up to the first refusal. Given: 0, if there is none.
+ * Refused: 1 to 3, 12, 13, 27 before any beat, also where the list is empty, or the refusal of the first refused beat, 15 to 19. made is
+ * written either way: how many steps were made, and how many promotions; what they did stays in the pool. In a run from a fresh pool
+ * made[1] times n is at most c times made[0]. */
+uint64_t mezdaulk_run(const uint8_t *table, size_t bytes, int32_t *pool, size_t words, uint32_t n, uint32_t c,
+                      const uint32_t *threads, size_t count, uint64_t made[2]);
 
 #ifdef __cplusplus
 }

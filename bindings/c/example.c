@@ -1,5 +1,6 @@
-/* Checks table B of document 01, writes it afresh, completes it from what has no scopes and nestings, and runs it: the spork's call is
- * promoted and joined, and main returns 7. Each answer is printed and held to what it must be; the status is 1 if one is another. */
+/* Checks table B of document 01, writes it afresh, completes it from what has no scopes and nestings, and runs it, by beats and by
+ * choices: the spork's call is promoted and joined, and main returns 7. Each answer is printed and held to what it must be; the status is
+ * 1 if one is another. */
 #include <inttypes.h>
 #include <stdio.h>
 #include <string.h>
@@ -74,6 +75,29 @@ static void complete(void) {
     hold("the block", MEZDAULK_BLOCK(answer), 3);
 }
 
+/* B is run by beats, with a token for every step: the first pays for the promotion, and the join brings the child's. */
+static void beats(void) {
+    static int32_t pool[MEZDAULK_POOL_WORDS];
+    const size_t words = MEZDAULK_POOL_WORDS;
+    const uint32_t threads[] = {1, 0, 0};
+    int32_t values[4] = {-1, -1, -1, -1};
+    uint64_t made[2] = {99, 99};
+    uint64_t answer;
+    given("start", mezdaulk_start(table, sizeof table, pool, words), 0);
+    refused("beat 0 with no steps for a token", mezdaulk_beat(table, sizeof table, pool, words, 0, 0, 1), MEZDAULK_REFUSED_PACE);
+    answer = mezdaulk_beat(table, sizeof table, pool, words, 0, 1, 1);
+    given("beat 0", answer, MEZDAULK_RULE_SPORK + 256);
+    hold("the rule", MEZDAULK_RULE(answer), MEZDAULK_RULE_SPORK);
+    hold("the promotions", MEZDAULK_PROMOTIONS(answer), 1);
+    answer = mezdaulk_run(table, sizeof table, pool, words, 1, 1, threads, 3, made);
+    refused("beats 1, 0, 0", answer, MEZDAULK_REFUSED_ENDED);
+    hold("the steps made", (int64_t)made[0], 2);
+    hold("the promotions made", (int64_t)made[1], 0);
+    hold("main's tokens", pool[3], 2);
+    given("values", mezdaulk_values(table, sizeof table, pool, words, values), 1);
+    four(values, 7);
+}
+
 int main(void) {
     static int32_t pool[MEZDAULK_POOL_WORDS];
     uint8_t damaged[sizeof table];
@@ -97,6 +121,7 @@ int main(void) {
     given("tidy", mezdaulk_tidy(table, bytes, tidy, sizeof tidy), (uint32_t)bytes);
     hold("the tidy table, which B is already,", memcmp(tidy, table, bytes), 0);
     complete();
+    beats();
 
     refused("start with no words", mezdaulk_start(table, bytes, NULL, 0), MEZDAULK_REFUSED_WORDS);
     given("start", mezdaulk_start(table, bytes, pool, words), 0);

@@ -1,6 +1,6 @@
 #!/usr/bin/env python3
-"""Checks table B of document 01, writes it afresh, completes it from what has no scopes and nestings, and runs it, through the shared
-object: the spork's call is promoted and joined, and main returns 7.
+"""Checks table B of document 01, writes it afresh, completes it from what has no scopes and nestings, and runs it, by beats and by
+choices, through the shared object: the spork's call is promoted and joined, and main returns 7.
 
 example.py [LIBRARY]; without it MEZDAULK_LIBRARY is taken, or target/make/libmezdaulk.so of this repository, which make builds. Each
 answer is printed and held to what it must be; the status is 1 if one is another.
@@ -18,8 +18,8 @@ STEP, PROMOTE = 0, 1
 NO_THREAD = 8
 OPEN = 255
 REFUSED_VERSION, REFUSED_FORM, REFUSED_WORDS, REFUSED_ENDED, REFUSED_WAITS, REFUSED_ROOM = 2, 3, 12, 16, 17, 23
-REFUSED_LENT, REFUSED_UNREACHED, REFUSED_IMPOSSIBLE = 24, 25, 26
-RULE_SPORK, RULE_PROMOTE = 7, 10
+REFUSED_LENT, REFUSED_UNREACHED, REFUSED_IMPOSSIBLE, REFUSED_PACE = 24, 25, 26, 27
+RULE_STMT, RULE_SPORK, RULE_PROM, RULE_PROMOTE = 1, 7, 9, 10
 
 
 def GIVEN(answer):
@@ -46,6 +46,14 @@ def FUNCTION(answer):
     return answer >> 16 & 0xFF
 
 
+def RULE(answer):
+    return answer & 0xFF
+
+
+def PROMOTIONS(answer):
+    return answer >> 8 & 0xFFFFFF
+
+
 class Choice(ctypes.Structure):
     """A choice of a schedule: a kind and a thread, counted from 0."""
 
@@ -55,6 +63,7 @@ class Choice(ctypes.Structure):
 Values = ctypes.c_int32 * 4
 TABLE = [ctypes.POINTER(ctypes.c_uint8), ctypes.c_size_t]
 SCRATCH = [ctypes.POINTER(ctypes.c_uint32), ctypes.c_size_t]
+THREADS = SCRATCH
 POOL = [ctypes.POINTER(ctypes.c_int32), ctypes.c_size_t]
 CHOICES = [ctypes.POINTER(Choice), ctypes.c_size_t]
 
@@ -70,6 +79,8 @@ CALLS = {
     "mezdaulk_which": TABLE + POOL,
     "mezdaulk_values": TABLE + POOL + [ctypes.POINTER(ctypes.c_int32)],
     "mezdaulk_schedule": TABLE + POOL + CHOICES + [ctypes.POINTER(ctypes.c_uint64)],
+    "mezdaulk_beat": TABLE + POOL + [ctypes.c_uint32] * 3,
+    "mezdaulk_run": TABLE + POOL + [ctypes.c_uint32] * 2 + THREADS + [ctypes.POINTER(ctypes.c_uint64)],
 }
 
 TABLE_B = bytes.fromhex(
@@ -178,6 +189,28 @@ def complete(lib, held):
     held.hold("the scratch", list(scratch), [0] * SCRATCH_WORDS)
 
 
+def beats(lib, held):
+    """A pool is run by beats, with three tokens for every step: one pays for the promotion, one goes with the child and comes back."""
+    table = lent(TABLE_B)
+    pool = (ctypes.c_int32 * POOL_WORDS)(), POOL_WORDS
+    values = Values(-1, -1, -1, -1)
+    held.given("start", lib.mezdaulk_start(*table, *pool), 0)
+    held.refused("beat 0 with 256 tokens for every step", lib.mezdaulk_beat(*table, *pool, 0, 1, 256), REFUSED_PACE)
+    for thread, rule, promotions, work_and_tokens in ((0, RULE_SPORK, 1, [0, 1]), (1, RULE_STMT, 0, [0, 4]), (0, RULE_PROM, 0, [0, 8])):
+        answer = lib.mezdaulk_beat(*table, *pool, thread, 1, 3)
+        held.given(f"beat {thread}", answer, rule + 256 * promotions)
+        held.hold("the rule and the promotions", (RULE(answer), PROMOTIONS(answer)), (rule, promotions))
+        held.hold("work and tokens", pool[0][2 + 211 * thread:4 + 211 * thread], work_and_tokens)
+    held.given("values", lib.mezdaulk_values(*table, *pool, values), 1)
+    held.hold("the values", list(values), [7, -1, -1, -1])
+
+    held.given("start", lib.mezdaulk_start(*table, *pool), 0)
+    threads = (ctypes.c_uint32 * 4)(0, 1, 0, 0)
+    made = (ctypes.c_uint64 * 2)(99, 99)
+    held.refused("beats 0, 1, 0, 0", lib.mezdaulk_run(*table, *pool, 1, 3, threads, len(threads), made), REFUSED_ENDED)
+    held.hold("the steps and promotions made", list(made), [3, 1])
+
+
 def run(lib, held):
     """A pool is started and run to its result."""
     table = lent(TABLE_B)
@@ -211,6 +244,7 @@ def main():
     judge(lib, held)
     tidy(lib, held)
     complete(lib, held)
+    beats(lib, held)
     run(lib, held)
     return 1 if held.wrong else 0
 

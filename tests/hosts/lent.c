@@ -11,6 +11,7 @@
 #include "brief_b.h"
 #include "line.h"
 #include "mezdaulk.h"
+#include "spawner.h"
 #include "table_b.h"
 
 #define REFUSED(number) ((uint64_t)(number))
@@ -65,6 +66,8 @@ static int32_t *pool;
 static size_t words;
 static const struct mezdaulk_choice *choices;
 static size_t count;
+static const uint32_t *threads;
+static size_t thread_count;
 static uint8_t *out;
 static size_t room;
 static const uint8_t *brief;
@@ -90,6 +93,7 @@ static uint64_t of_pool(uint64_t due) {
 static void every_call(void) {
     int32_t values[4] = {-1, -1, -1, -1};
     uint64_t made = 99;
+    uint64_t ran[2] = {99, 99};
     const int all = bytes != 0 && words != 0;
     hold("read", mezdaulk_read(table, bytes), of_table(GIVEN(0)));
     hold("check", mezdaulk_check(table, bytes), of_table(GIVEN(0)));
@@ -103,16 +107,28 @@ static void every_call(void) {
     hold("made", made, all ? count : 0);
     hold("start again", mezdaulk_start(table, bytes, pool, words), of_pool(GIVEN(0)));
     hold("choose", mezdaulk_choose(table, bytes, pool, words, MEZDAULK_STEP, 0), of_pool(GIVEN(MEZDAULK_RULE_SPORK)));
+    hold("start once more", mezdaulk_start(table, bytes, pool, words), of_pool(GIVEN(0)));
+    hold("run with no pace", mezdaulk_run(table, bytes, pool, words, 0, 1, threads, thread_count, ran),
+         of_pool(REFUSED(MEZDAULK_REFUSED_PACE)));
+    hold("steps of no pace", ran[0], 0);
+    hold("promotions of no pace", ran[1], 0);
+    ran[0] = ran[1] = 99;
+    hold("run", mezdaulk_run(table, bytes, pool, words, 1, 1, threads, thread_count, ran), of_pool(GIVEN(0)));
+    hold("steps", ran[0], all ? thread_count : 0);
+    hold("promotions", ran[1], all && thread_count > 0 ? 1 : 0);
+    hold("start at last", mezdaulk_start(table, bytes, pool, words), of_pool(GIVEN(0)));
+    hold("beat", mezdaulk_beat(table, bytes, pool, words, 0, 1, 1), of_pool(GIVEN(MEZDAULK_RULE_SPORK + 256)));
 }
 
 /* All combinations of something and nothing, where nothing is this address. */
 static void nothing_at(uintptr_t address) {
     static int32_t some_pool[MEZDAULK_POOL_WORDS];
     static const struct mezdaulk_choice some_choices[] = {{MEZDAULK_STEP, 0}, {MEZDAULK_PROMOTE, 0}};
+    static const uint32_t some_threads[] = {0, 1};
     static uint8_t some_output[sizeof table_b];
     int which;
-    for (which = 0; which < 16; which++) {
-        const int has_table = which & 1, has_pool = which & 2, has_choices = which & 4, has_output = which & 8;
+    for (which = 0; which < 32; which++) {
+        const int has_table = which & 1, has_pool = which & 2, has_choices = which & 4, has_output = which & 8, has_threads = which & 16;
         table = has_table ? table_b : (const uint8_t *)address;
         bytes = has_table ? sizeof table_b : 0;
         pool = has_pool ? some_pool : (int32_t *)address;
@@ -121,6 +137,8 @@ static void nothing_at(uintptr_t address) {
         count = has_choices ? 2 : 0;
         out = has_output ? some_output : (uint8_t *)address;
         room = has_output ? sizeof some_output : 0;
+        threads = has_threads ? some_threads : (const uint32_t *)address;
+        thread_count = has_threads ? 2 : 0;
         every_call();
     }
 }
@@ -210,6 +228,80 @@ static size_t others(const unsigned char *first, size_t count, unsigned char val
         found += first[k] != value;
     }
     return found;
+}
+
+/* Memory at a fence, the room around it filled with one byte. */
+struct lent {
+    struct fenced fence;
+    unsigned char *at;
+    size_t bytes;
+};
+
+static struct lent lend(enum side side, const void *content, size_t bytes) {
+    struct lent lent;
+    lent.fence = fenced(bytes);
+    lent.bytes = bytes;
+    memset(lent.fence.first, 0xA5, lent.fence.room);
+    lent.at = place(lent.fence, side, content, bytes);
+    return lent;
+}
+
+/* The room beside it has the byte still. */
+static void kept_beside(const char *what, struct lent lent) {
+    const size_t before = (size_t)(lent.at - lent.fence.first);
+    const size_t behind = lent.fence.room - before - lent.bytes;
+    hold(what, others(lent.fence.first, before, 0xA5) + others(lent.at + lent.bytes, behind, 0xA5), 0);
+}
+
+/* Eight threads by one run with all that is lent at fences, so that nothing is behind the last, and the same by single beats: their steps
+ * and promotions, what main holds at last, and words that are as they were where a call is refused. Lists of no thread, too. */
+static void beats_fenced(enum side side) {
+    const size_t pool_bytes = MEZDAULK_POOL_WORDS * sizeof(int32_t);
+    const struct lent lent_table = lend(side, spawner, sizeof spawner), lent_pool = lend(side, NULL, pool_bytes);
+    const struct lent lent_threads = lend(side, spawner_threads, sizeof spawner_threads), no_threads = lend(side, NULL, 0);
+    const struct lent lent_made = lend(side, NULL, 2 * sizeof(uint64_t));
+    const uint8_t *t = lent_table.at;
+    const uint32_t *list = (const uint32_t *)(const void *)lent_threads.at;
+    const uint32_t *empty = (const uint32_t *)(const void *)no_threads.at;
+    int32_t *p = (int32_t *)(void *)lent_pool.at;
+    uint64_t *made = (uint64_t *)(void *)lent_made.at;
+    static int32_t before[MEZDAULK_POOL_WORDS];
+    const size_t n = MEZDAULK_POOL_WORDS;
+    uint64_t promotions = 0;
+    size_t k;
+    hold("start", mezdaulk_start(t, sizeof spawner, p, n), GIVEN(0));
+    hold("run", mezdaulk_run(t, sizeof spawner, p, n, 1, 1, list, SPAWNER_THREADS, made), REFUSED(MEZDAULK_REFUSED_ENDED));
+    hold("steps", made[0], SPAWNER_STEPS);
+    hold("promotions", made[1], SPAWNER_PROMOTIONS);
+    hold("threads left", (uint64_t)p[0], 1);
+    hold("main's work", (uint64_t)p[2], 0);
+    hold("main's tokens", (uint64_t)p[3], SPAWNER_STEPS - SPAWNER_PROMOTIONS);
+    memcpy(before, p, pool_bytes);
+    hold("a run of no thread", mezdaulk_run(t, sizeof spawner, p, n, 1, 1, empty, 0, made), GIVEN(0));
+    hold("steps of no thread", made[0], 0);
+    hold("promotions of no thread", made[1], 0);
+    made[0] = made[1] = 99;
+    hold("a run of too few words", mezdaulk_run(t, sizeof spawner, p, n - 1, 1, 1, list, SPAWNER_THREADS, made),
+         REFUSED(MEZDAULK_REFUSED_WORDS));
+    hold("steps of too few words", made[0], 0);
+    hold("promotions of too few words", made[1], 0);
+    hold("a beat of too few words", mezdaulk_beat(t, sizeof spawner, p, n - 1, 0, 1, 1), REFUSED(MEZDAULK_REFUSED_WORDS));
+    hold("a beat of no pace", mezdaulk_beat(t, sizeof spawner, p, n, 8, 1, 256), REFUSED(MEZDAULK_REFUSED_PACE));
+    hold("a beat of no thread", mezdaulk_beat(t, sizeof spawner, p, n, UINT32_MAX, 65535, 255), REFUSED(MEZDAULK_REFUSED_THREAD));
+    hold("the words", (uint64_t)(memcmp(p, before, pool_bytes) != 0), 0);
+    hold("start again", mezdaulk_start(t, sizeof spawner, p, n), GIVEN(0));
+    for (k = 0; k < SPAWNER_STEPS; k++) {
+        const uint64_t answer = mezdaulk_beat(t, sizeof spawner, p, n, spawner_threads[k], 1, 1);
+        hold("beat", (uint64_t)MEZDAULK_GIVEN(answer), 1);
+        promotions += MEZDAULK_PROMOTIONS(answer);
+    }
+    hold("promotions of the beats", promotions, SPAWNER_PROMOTIONS);
+    hold("the words of the beats", (uint64_t)(memcmp(p, before, pool_bytes) != 0), 0);
+    hold("the table", (uint64_t)(memcmp(t, spawner, sizeof spawner) != 0), 0);
+    hold("the threads", (uint64_t)(memcmp(list, spawner_threads, sizeof spawner_threads) != 0), 0);
+    kept_beside("beside the pool", lent_pool);
+    kept_beside("beside the threads", lent_threads);
+    kept_beside("beside the numbers made", lent_made);
 }
 
 /* B completed with outputs and scratches at fences, of the right lengths and of others. What is not written stays. */
@@ -348,6 +440,7 @@ int main(void) {
     nothing_to_complete_at(1);
     for (side = 0; side < SIDES; side++) {
         run_fenced((enum side)side);
+        beats_fenced((enum side)side);
         tidy_fenced((enum side)side, table_b, sizeof table_b, table_b, sizeof table_b);
         tidy_fenced((enum side)side, untidy_b, sizeof untidy_b, table_b, sizeof table_b);
         beginnings((enum side)side);

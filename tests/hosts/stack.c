@@ -1,8 +1,9 @@
 /* How many bytes of stack each call takes: the call runs on a thread whose stack was filled with one byte, and afterwards the lowest
  * byte that has changed is looked for. Every call is made at each state of a run of table B, the depth on lines of sixteen functions,
  * open and closed, the tidy table on such a line and on B with dead code, the completion of such a line, of B, and of B with a block that
- * is not reached or a spawn call that is missing, and the most that it took is printed. MOST, and MOST_COMPLETE where 16,384 bytes are
- * written beforehand, are what docs/USING.md says; a call that takes more fails, and so does one that seems to take nothing. */
+ * is not reached or a spawn call that is missing, a run of beats with eight threads too, and the most that it took is printed. MOST, and
+ * MOST_COMPLETE where 16,384 bytes are written beforehand, are what docs/USING.md says; a call that takes more fails, and so does one
+ * that seems to take nothing. */
 #define _POSIX_C_SOURCE 200809L
 #include <pthread.h>
 #include <stdio.h>
@@ -12,6 +13,7 @@
 #include "brief_b.h"
 #include "line.h"
 #include "mezdaulk.h"
+#include "spawner.h"
 #include "table_b.h"
 
 #define MOST 12288
@@ -86,6 +88,22 @@ static uint64_t call_schedule(void) {
     return mezdaulk_schedule(table_b, sizeof table_b, pool, MEZDAULK_POOL_WORDS, run + at, RUN - at, &made);
 }
 
+/* A step earns more tokens than there can be threads. */
+static uint64_t call_beat(void) {
+    return mezdaulk_beat(table_b, sizeof table_b, pool, MEZDAULK_POOL_WORDS, run[at].thread, 1, 255);
+}
+
+static uint64_t call_run(void) {
+    static const uint32_t threads[] = {0, 1, 0, 0};
+    static int32_t own[MEZDAULK_POOL_WORDS];
+    uint64_t made[2];
+    if (at & 1) {
+        return mezdaulk_run(table_b, sizeof table_b, pool, MEZDAULK_POOL_WORDS, 1, 255, threads, 4, made);
+    }
+    mezdaulk_start(spawner, sizeof spawner, own, MEZDAULK_POOL_WORDS);
+    return mezdaulk_run(spawner, sizeof spawner, own, MEZDAULK_POOL_WORDS, 1, 1, spawner_threads, SPAWNER_THREADS, made);
+}
+
 struct job {
     const char *name;
     uint64_t (*call)(void);
@@ -141,7 +159,8 @@ int main(void) {
         {"depth", call_depth, MOST, NULL, 0},   {"tidy", call_tidy, MOST, NULL, 0},
         {"start", call_start, MOST, NULL, 0},   {"choose", call_choose, MOST, NULL, 0},
         {"which", call_which, MOST, NULL, 0},   {"values", call_values, MOST, NULL, 0},
-        {"schedule", call_schedule, MOST, NULL, 0}, {"complete", call_complete, MOST_COMPLETE, NULL, 0},
+        {"schedule", call_schedule, MOST, NULL, 0}, {"beat", call_beat, MOST, NULL, 0},
+        {"run", call_run, MOST, NULL, 0},       {"complete", call_complete, MOST_COMPLETE, NULL, 0},
     };
     int passed = 0, failed = 0;
     size_t k;

@@ -3,7 +3,7 @@
 
 use crate::raw::{self, Choice};
 use crate::refusal::answered;
-use crate::{Refusal, Rule};
+use crate::{Beat, Pace, Ran, Refusal, Rule};
 
 /// The value of `mezdaulk_which` where no thread can step, and of `mezdaulk_values` while main's values are open.
 const NO_THREAD: u32 = 8;
@@ -134,7 +134,11 @@ pub fn choose(table: &[u8], pool: &mut [i32], choice: Choice) -> Result<Rule, Re
             choice.thread,
         )
     })
-    .map(|rule| Rule::try_from(rule as u8).expect("the library makes one of rules 1 to 10"))
+    .map(|number| rule(number as u8))
+}
+
+fn rule(number: u8) -> Rule {
+    Rule::try_from(number).expect("the library makes one of rules 1 to 10")
 }
 
 /// Choices up to the first refusal: how many were made, and that refusal, 1 to 3 or 12 to 21.
@@ -158,6 +162,73 @@ pub fn schedule(
         )
     };
     (made as usize, answered(answer).map(|_| ()))
+}
+
+/// One beat: a step of a thread with the tokens that it earns, then promotions for them. Refused: 1 to 3, 12, 13, 27, 15 to 19.
+/// [`Pool::beat`](crate::Pool::beat) says what it does.
+///
+/// ```
+/// use mezdaulk::{lent, Beat, Pace, Pool, Reason, Rule};
+///
+/// // One statement, 2 + 3, and a return.
+/// let table = [
+///     0, 0, 0, 30, 1, 1, 0, 1, 1, 0, 0, 0, 0, 0, 1, 0, 2, 0, 0, 0, 0, 2, 0, 0, 0, 0, 3, 3, 1, 0,
+/// ];
+/// let mut words = [0; Pool::WORDS];
+/// lent::start(&table, &mut words)?;
+/// let refusal = lent::beat(&table, &mut words, Pace { n: 1, c: 256 }, 0).unwrap_err();
+/// assert_eq!(refusal.reason(), Reason::Pace);
+/// let made = lent::beat(&table, &mut words, Pace { n: 1, c: 255 }, 0)?;
+/// assert_eq!(made, Beat { rule: Rule::Stmt, promotions: 0 });
+/// // One step is enough for 255 tokens, and there is nothing to promote.
+/// assert_eq!(words[1..4], [1, 0, 255]);
+/// # Ok::<(), mezdaulk::Refusal>(())
+/// ```
+pub fn beat(table: &[u8], pool: &mut [i32], pace: Pace, thread: u32) -> Result<Beat, Refusal> {
+    // Safety: as in `start`.
+    answered(unsafe {
+        raw::mezdaulk_beat(
+            table.as_ptr(),
+            table.len(),
+            pool.as_mut_ptr(),
+            pool.len(),
+            thread,
+            pace.n,
+            pace.c,
+        )
+    })
+    .map(|value| Beat {
+        rule: rule(value as u8),
+        promotions: value >> 8,
+    })
+}
+
+/// A beat of each thread of a list, up to the first refusal: the steps and promotions made, and that refusal, 1 to 3, 12, 13, 27 or 15
+/// to 19.
+pub fn run(
+    table: &[u8],
+    pool: &mut [i32],
+    pace: Pace,
+    threads: &[u32],
+) -> (Ran, Result<(), Refusal>) {
+    // The library writes both numbers either way; no list has so many.
+    let mut made = [u64::MAX; 2];
+    // Safety: as in `start`; the threads are valid for their number, and two counts are lent for writing.
+    let answer = unsafe {
+        raw::mezdaulk_run(
+            table.as_ptr(),
+            table.len(),
+            pool.as_mut_ptr(),
+            pool.len(),
+            pace.n,
+            pace.c,
+            threads.as_ptr(),
+            threads.len(),
+            made.as_mut_ptr(),
+        )
+    };
+    let [steps, promotions] = made;
+    (Ran { steps, promotions }, answered(answer).map(|_| ()))
 }
 
 /// A thread whose step makes a rule, or none exactly if there is none. Refused: 1 to 3, 12, 13.

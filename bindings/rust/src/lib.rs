@@ -2,9 +2,9 @@
 //!
 //! [`check`] says yes or no to a table, [`depth`] how many frames its calls can need, [`tidy`](tidy()) writes it afresh for the
 //! archive, and [`complete`](complete()) makes one of a table without scopes and nestings; [`Pool::start`] makes a pool of it, and
-//! [`Pool::choose`] or [`Pool::schedule`] runs it.
-//! A call that is refused has changed nothing, except that a schedule keeps what the choices before the refused one made, and that a
-//! completion refused with 25 or 26 leaves its scratch as words of 0.
+//! [`Pool::choose`] or [`Pool::schedule`] runs it, and so do [`Pool::beat`] and [`Pool::run`], which promote by tokens.
+//! A call that is refused has changed nothing, except that a schedule keeps what the choices before the refused one made, and a run what
+//! the beats before it made, and that a completion refused with 25 or 26 leaves its scratch as words of 0.
 //!
 //! ```
 //! use mezdaulk::{check, Pool, Reason, Rule};
@@ -31,6 +31,7 @@
 
 #![deny(missing_docs)]
 
+mod beats;
 mod complete;
 pub mod lent;
 mod numbers;
@@ -39,6 +40,7 @@ pub mod raw;
 mod refusal;
 mod tidy;
 
+pub use beats::{Beat, Pace, Ran};
 pub use complete::{complete, OUTPUT_BYTES, SCRATCH_WORDS};
 pub use lent::{check, depth, read};
 pub use numbers::{Kind, Reason, Rule, Unknown};

@@ -96,6 +96,7 @@ numbered! {
         Lent = 24, "the scratch has fewer than 1,024 words, or the output has not 16,384 bytes";
         Unreached = 25, "no transfer from its function's entry reaches a block";
         Impossible = 26, "no scopes and nestings make a function well formed";
+        Pace = 27, "N is not 1 to 65,535, or C not 1 to 255";
     }
 }
 

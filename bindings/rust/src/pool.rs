@@ -2,7 +2,7 @@
 
 use crate::lent;
 use crate::raw::Choice;
-use crate::{Reason, Refusal, Rule};
+use crate::{Beat, Pace, Ran, Reason, Refusal, Rule};
 use std::fmt;
 use std::ops::Deref;
 
@@ -83,6 +83,53 @@ impl Pool {
     /// ```
     pub fn schedule(&mut self, table: &[u8], choices: &[Choice]) -> (usize, Result<(), Refusal>) {
         lent::schedule(table, &mut self.words, choices)
+    }
+
+    /// One beat: a step of a thread, and then promotions of it for its tokens. Where the step is made, the tokens of the child that it
+    /// joined come to the thread; its work grows by 1, and at `n` or more returns to 0 and `c` tokens come; what would be above
+    /// 2,000,000,000 is dropped. Then, as long as the thread has a token and a promotion of it would be made, that is made for one token,
+    /// and half of those left, rounded down, go to the child. Refused: 1 to 3, 13, 27 for a [`Pace`] out of range, 15 to 19 as a step is,
+    /// and the pool is then as it was.
+    ///
+    /// ```
+    /// use mezdaulk::{Beat, Pace, Pool, Reason, Rule};
+    ///
+    /// // A spork: main returns 1 if it is not promoted, 7 if it is.
+    /// let table = [
+    ///     0, 0, 0, 72, 1, 2, 0, 1, 4, 1, 1, 0, 0, 0, 0, 0, 0, 4, 1, 0, 0, 0, 0, 1, 0, 0, 5, 2, 3, 0, 0, 0, 0, 1, 0, 0,
+    ///     0, 0, 0, 0, 1, 3, 1, 0, 1, 0, 0, 0, 0, 0, 3, 1, 0, 0, 1, 1, 0, 0, 0, 0, 0, 1, 0, 0, 0, 0, 0, 0, 7, 3, 1, 0,
+    /// ];
+    /// let every_step = Pace { n: 1, c: 1 };
+    /// let mut pool = Pool::start(&table)?;
+    /// assert_eq!(pool.beat(&table, every_step, 0)?, Beat { rule: Rule::Spork, promotions: 1 });
+    /// assert_eq!(pool.beat(&table, every_step, 0).unwrap_err().reason(), Reason::Waits);
+    /// assert_eq!(pool.beat(&table, every_step, 1)?, Beat { rule: Rule::Stmt, promotions: 0 });
+    /// assert_eq!(pool.beat(&table, every_step, 0)?, Beat { rule: Rule::Prom, promotions: 0 });
+    /// assert_eq!(*pool.values(&table)?.expect("main has returned"), [7]);
+    /// # Ok::<(), mezdaulk::Refusal>(())
+    /// ```
+    pub fn beat(&mut self, table: &[u8], pace: Pace, thread: u32) -> Result<Beat, Refusal> {
+        lent::beat(table, &mut self.words, pace, thread)
+    }
+
+    /// A beat of each thread of a list, up to the first refusal: the steps and promotions made, and that refusal, 1 to 3, 13, 27 or 15 to
+    /// 19. What they did stays. In a run from a fresh pool the promotions times `n` are at most `c` times the steps.
+    ///
+    /// ```
+    /// use mezdaulk::{Pace, Pool, Ran, Reason};
+    /// # let table = [
+    /// #     0, 0, 0, 72, 1, 2, 0, 1, 4, 1, 1, 0, 0, 0, 0, 0, 0, 4, 1, 0, 0, 0, 0, 1, 0, 0, 5, 2, 3, 0, 0, 0, 0, 1, 0, 0,
+    /// #     0, 0, 0, 0, 1, 3, 1, 0, 1, 0, 0, 0, 0, 0, 3, 1, 0, 0, 1, 1, 0, 0, 0, 0, 0, 1, 0, 0, 0, 0, 0, 0, 7, 3, 1, 0,
+    /// # ];
+    /// let mut pool = Pool::start(&table)?;
+    /// let (made, answer) = pool.run(&table, Pace { n: 1, c: 1 }, &[0, 1, 0, 0]);
+    /// assert_eq!(made, Ran { steps: 3, promotions: 1 });
+    /// assert_eq!(answer.unwrap_err().reason(), Reason::Ended);
+    /// assert_eq!(*pool.values(&table)?.expect("main has returned"), [7]);
+    /// # Ok::<(), mezdaulk::Refusal>(())
+    /// ```
+    pub fn run(&mut self, table: &[u8], pace: Pace, threads: &[u32]) -> (Ran, Result<(), Refusal>) {
+        lent::run(table, &mut self.words, pace, threads)
     }
 
     /// A thread whose step makes a rule, or none exactly if there is none. Refused: 1 to 3, 13.

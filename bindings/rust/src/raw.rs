@@ -94,4 +94,28 @@ extern "C" {
         count: usize,
         made: *mut u64,
     ) -> u64;
+
+    /// One beat.
+    pub fn mezdaulk_beat(
+        table: *const u8,
+        bytes: usize,
+        pool: *mut i32,
+        words: usize,
+        thread: u32,
+        n: u32,
+        c: u32,
+    ) -> u64;
+
+    /// A beat of each thread of a list, up to the first refusal; there is room for two numbers made.
+    pub fn mezdaulk_run(
+        table: *const u8,
+        bytes: usize,
+        pool: *mut i32,
+        words: usize,
+        n: u32,
+        c: u32,
+        threads: *const u32,
+        count: usize,
+        made: *mut u64,
+    ) -> u64;
 }

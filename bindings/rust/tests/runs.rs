@@ -1,8 +1,8 @@
 //! Runs of tables A and B of document 01, stored pools, and the numbers by name.
 
 use mezdaulk::{
-    check, complete, depth, lent, read, tidy, Choice, Kind, Place, Pool, Reason, Refusal, Rule,
-    Unknown, OUTPUT_BYTES, SCRATCH_WORDS,
+    check, complete, depth, lent, read, tidy, Beat, Choice, Kind, Pace, Place, Pool, Ran, Reason,
+    Refusal, Rule, Unknown, OUTPUT_BYTES, SCRATCH_WORDS,
 };
 
 /// One statement, and the result 5.
@@ -276,6 +276,120 @@ fn tables_that_are_not_completed() {
     }
 }
 
+/// The work and the tokens of a thread.
+fn purse(pool: &Pool, thread: usize) -> [i32; 2] {
+    let at = 2 + 211 * thread;
+    [pool.words()[at], pool.words()[at + 1]]
+}
+
+fn beat(rule: Rule, promotions: u32) -> Result<Beat, Refusal> {
+    Ok(Beat { rule, promotions })
+}
+
+#[test]
+fn beats_earn_and_spend() {
+    // Three tokens a step: one is paid, and one of the two left goes to the child.
+    let pace = Pace { n: 1, c: 3 };
+    let mut pool = Pool::start(&B).unwrap();
+    assert_eq!(pool.beat(&B, pace, 0), beat(Rule::Spork, 1));
+    assert_eq!((purse(&pool, 0), purse(&pool, 1)), ([0, 1], [0, 1]));
+    assert_eq!(reason(pool.beat(&B, pace, 0)), Reason::Waits);
+    // Two steps for a token: the child has worked for half of one.
+    assert_eq!(pool.beat(&B, Pace { n: 2, c: 1 }, 1), beat(Rule::Stmt, 0));
+    assert_eq!((purse(&pool, 0), purse(&pool, 1)), ([0, 1], [1, 1]));
+    // The join brings the child's token, and its work is lost.
+    assert_eq!(pool.beat(&B, Pace { n: 2, c: 1 }, 0), beat(Rule::Prom, 0));
+    assert_eq!((purse(&pool, 0), purse(&pool, 1)), ([1, 2], [0, 0]));
+    assert_eq!(reason(pool.beat(&B, pace, 0)), Reason::Ended);
+    assert_eq!(*pool.values(&B).unwrap().unwrap(), [7]);
+}
+
+#[test]
+fn plain_choices_leave_work_and_tokens() {
+    let mut pool = Pool::start(&B).unwrap();
+    pool.as_mut()[2..4].copy_from_slice(&[65_534, 2_000_000_000]);
+    assert_eq!(pool.step(&B, 0), Ok(Rule::Spork));
+    assert_eq!(pool.promote(&B, 0), Ok(Rule::Promote));
+    let full = [65_534, 2_000_000_000];
+    assert_eq!((purse(&pool, 0), purse(&pool, 1)), (full, [0, 0]));
+    // Tokens that come to 2,000,000,000 others are dropped, and work beyond N brings tokens once.
+    let mut beaten = pool.clone();
+    beaten.as_mut()[214] = 5;
+    assert_eq!(pool.step(&B, 1), Ok(Rule::Stmt));
+    assert_eq!(pool.step(&B, 0), Ok(Rule::Prom));
+    assert_eq!((purse(&pool, 0), purse(&pool, 1)), (full, [0, 0]));
+    assert_eq!(beaten.step(&B, 1), Ok(Rule::Stmt));
+    assert_eq!(
+        beaten.beat(&B, Pace { n: 2, c: 255 }, 0),
+        beat(Rule::Prom, 0)
+    );
+    assert_eq!(purse(&beaten, 0), [0, 2_000_000_000]);
+}
+
+#[test]
+fn runs_up_to_the_first_refusal() {
+    let pace = Pace { n: 1, c: 1 };
+    let made = |steps, promotions| Ran { steps, promotions };
+    let mut pool = Pool::start(&B).unwrap();
+    let (ran, answer) = pool.run(&B, pace, &[0, 0, 1]);
+    assert_eq!((ran, reason(answer)), (made(1, 1), Reason::Waits));
+    assert_eq!(pool.run(&B, pace, &[1, 0]), (made(2, 0), Ok(())));
+    assert_eq!(*pool.values(&B).unwrap().unwrap(), [7]);
+    assert_eq!(pool.run(&B, pace, &[]), (made(0, 0), Ok(())));
+    let (ran, answer) = pool.run(&B, pace, &[8, 0]);
+    assert_eq!((ran, reason(answer)), (made(0, 0), Reason::Thread));
+}
+
+#[test]
+fn a_pace_out_of_range() {
+    let mut pool = Pool::start(&B).unwrap();
+    let fresh = pool.clone();
+    for (n, c) in [(0, 1), (1, 0), (65_536, 1), (1, 256), (u32::MAX, u32::MAX)] {
+        let pace = Pace { n, c };
+        // Before the thread, which is none.
+        let refused = pool.beat(&B, pace, 8).unwrap_err();
+        assert_eq!((refused.reason(), refused.place()), (Reason::Pace, None));
+        assert_eq!(
+            refused.to_string(),
+            "N is not 1 to 65,535, or C not 1 to 255 (refusal 27)"
+        );
+        for threads in [&[][..], &[0]] {
+            let (ran, answer) = pool.run(&B, pace, threads);
+            assert_eq!((ran.steps, ran.promotions), (0, 0));
+            assert_eq!(reason(answer), Reason::Pace);
+        }
+        // Behind the number of words.
+        assert_eq!(reason(lent::beat(&B, &mut [], pace, 0)), Reason::Words);
+    }
+    assert_eq!(pool, fresh);
+    for pace in [Pace { n: 65_535, c: 1 }, Pace { n: 1, c: 255 }] {
+        assert!(fresh.clone().beat(&B, pace, 0).is_ok());
+    }
+}
+
+#[test]
+fn work_and_tokens_out_of_range() {
+    let fresh = Pool::start(&A).unwrap();
+    for (at, word) in [
+        (2, -1),
+        (2, 65_535),
+        (3, -1),
+        (3, 2_000_000_001),
+        (213, 1),
+        (214, 1),
+    ] {
+        let mut pool = fresh.clone();
+        pool.as_mut()[at] = word;
+        assert_eq!(reason(pool.which(&A)), Reason::Pool);
+        // Before the pace.
+        let none = Pace { n: 0, c: 0 };
+        assert_eq!(reason(pool.beat(&A, none, 0)), Reason::Pool);
+        let (ran, answer) = pool.run(&A, none, &[]);
+        assert_eq!((ran.steps, ran.promotions), (0, 0));
+        assert_eq!(reason(answer), Reason::Pool);
+    }
+}
+
 #[test]
 fn as_many_values_as_main_returns() {
     let two = [
@@ -304,7 +418,7 @@ fn words_of_another_number() {
 #[test]
 fn numbers_by_name() {
     let reasons: Vec<u8> = Reason::ALL.iter().map(|r| r.number()).collect();
-    assert_eq!(reasons, (1..=26).collect::<Vec<u8>>());
+    assert_eq!(reasons, (1..=27).collect::<Vec<u8>>());
     let rules: Vec<u8> = Rule::ALL.iter().map(|&rule| rule.into()).collect();
     assert_eq!(rules, (1..=10).collect::<Vec<u8>>());
     for &reason in Reason::ALL {
@@ -313,7 +427,7 @@ fn numbers_by_name() {
     for &rule in Rule::ALL {
         assert_eq!(Rule::try_from(rule.number()), Ok(rule));
     }
-    assert_eq!(Reason::try_from(27), Err(Unknown(27)));
+    assert_eq!(Reason::try_from(28), Err(Unknown(28)));
     assert_eq!(Rule::try_from(0), Err(Unknown(0)));
     assert_eq!(Kind::try_from(1), Ok(Kind::Promote));
     assert_eq!(Choice::new(Kind::Promote, 3), Choice { kind: 1, thread: 3 });

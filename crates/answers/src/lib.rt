@@ -66,6 +66,9 @@ impl No {
     pub const UNREACHED: u8 = 25;
 
     pub const IMPOSSIBLE: u8 = 26;
+
+    // a beat, and a run of beats
+    pub const PACE: u8 = 27;
 }
 
 // The rules of figure 3.

@@ -19,7 +19,8 @@ use Rattle.answers.specs.Answers.{refusalOf}
 use Rattle.eval.specs.declared.Looked.{Looked}
 use Rattle.eval.specs.Given.{valuesAs, lookedAs}
 use Rattle.steps.specs.Choice.{Ends}
-use Rattle.steps.proofs.Choosing.{around, some-thread, known-at, main-first}
+use Rattle.model.proofs.Valid.{some-thread}
+use Rattle.steps.proofs.Choosing.{around, known-at, main-first}
 use Rattle.lend.proofs.Lending.{Lending}
 use Rattle.calls.specs.declared.State.{State}
 use Rattle.calls.specs.declared.State.the-variants.{Given, Open, Refused}
@@ -74,7 +75,7 @@ module _ (s places : List ℕ) (ws : List ℤ) (l : Lending s places ws) (o : Lo
   main-thread =
       let P = l .what .table in
       let p = l .what .pool in
-      let x = around p 0 (some-thread P p (l .words) (l .valid)) in
+      let x = around p 0 (some-thread P p (l .valid)) in
       let k = known-at P p (l .words) (l .valid) (l .table) x in
       record {
         values = ended P (x .thread);

@@ -13,6 +13,7 @@ use Rattle.model.specs.Pool.{mostFrames, poolWords}
 use Rattle.model.specs.Calls as Calls
 use Rattle.model.specs.Calls.{read, check}
 use Rattle.model.proofs.Accepted.{check-wf}
+use Rattle.tokens.specs.Purses.{Repursed}
 use Rattle.safety.specs.NeverJams.{Call, ofCall, Returned, CanStep, OutOfFrames, Moves, Stands}
 use Rattle.safety.proofs.Schedules.{finally-kept, call-each, calls-each}
 use Rattle.safety.proofs.Theorem.{demand3, now, waiting-moves}
@@ -20,20 +21,23 @@ use Rattle.chains.specs.Chains.{Deepest}
 use Rattle.chains.specs.Depth.{depth}
 use Rattle.chains.specs.Roomy.{NotFull, Few, Roomy, Chained, Full, Depth, AnyTable}
 use Rattle.chains.proofs.Means.{depth-means}
-use Rattle.chains.proofs.Words.{Held, held-start, held-after, held-chained, held-full, held-few, held-room}
+use Rattle.chains.proofs.Words.{Held, held-start, held-after, held-aside, held-chained, held-full, held-few, held-room}
 
--- every choice keeps linked words so
+-- every choice keeps linked words so, and another purse too
 kept : (s : List ℕ) (ws : List ℤ) → Held s ws → (kind i : ℕ) → Held s (Calls.choose s ws kind i .after)
 kept s ws g = held-after g
+
+aside : (s : List ℕ) (ws ws′ : List ℤ) → Repursed s ws ws′ → Held s ws → Held s ws′
+aside s ws ws′ r g = held-aside g r
 
 -- of any table that reads, a thread's frames are a chain of calls
 pub frames-follow : AnyTable
 frames-follow s P ws r n cs =
     let g = held-start s P ws r n in
     record {
-      ever = calls-each s (Held s) (kept s) (λ p. Chained s (p .words)) (λ _ g _ _. held-chained g) cs g;
-      after = held-chained (finally-kept s (Held s) (kept s) cs g);
-      answered = calls-each s (Held s) (kept s) (Full s P) (λ _ g kind i. held-full g P r kind i) cs g;
+      ever = calls-each s (Held s) (kept s) (aside s) (λ p. Chained s (p .words)) (λ _ g _ _. held-chained g) cs g;
+      after = held-chained (finally-kept s (Held s) (kept s) (aside s) cs g);
+      answered = calls-each s (Held s) (kept s) (aside s) (Full s P) (λ _ g kind i. held-full g P r kind i) cs g;
     }
 
 -- a table with a depth
@@ -51,7 +55,7 @@ module _ (s : List ℕ) (d : ℕ) (e : depth s ≡ Answer.given d) where
 
     module _ (cs : List Call) where
       held-now : Held s (now s ws cs)
-      held-now = finally-kept s (Held s) (kept s) cs held-started
+      held-now = finally-kept s (Held s) (kept s) (aside s) cs held-started
 
       -- no thread has more frames than the depth
       pub now-few : Few s d (now s ws cs)
@@ -60,7 +64,7 @@ module _ (s : List ℕ) (d : ℕ) (e : depth s ≡ Answer.given d) where
       module _ (l : d ≤ mostFrames) where
         -- no choice of a call put next is answered 18
         pub now-room : (c : Call) → Each (NotFull s) (ofCall s (now s ws cs) c)
-        now-room c = call-each s (Held s) (kept s) (NotFull s) (λ _ g kind i. held-room g d deep l kind i) c held-now
+        now-room c = call-each s (Held s) (kept s) (aside s) (NotFull s) (λ _ g kind i. held-room g d deep l kind i) c held-now
 
         not-full : OutOfFrames s (now s ws cs) → ⊥
         unfolding NotFull numberOf
@@ -93,8 +97,8 @@ never-full s d ws e n = record { starts = demand3 s ws (accepted s d e) n .start
     roomy : (cs : List Call) → Roomy s d (Calls.start s ws .after) cs
     roomy cs =
         record {
-          ever = calls-each s (Held s) (kept s) (λ p. Few s d (p .words)) (λ _ g _ _. held-few g d (deep s d e)) cs g;
+          ever = calls-each s (Held s) (kept s) (aside s) (λ p. Few s d (p .words)) (λ _ g _ _. held-few g d (deep s d e)) cs g;
           after = now-few s d e ws n cs;
-          answered = λ l. calls-each s (Held s) (kept s) (NotFull s) (λ _ g kind i. held-room g d (deep s d e) l kind i) cs g;
+          answered = λ l. calls-each s (Held s) (kept s) (aside s) (NotFull s) (λ _ g kind i. held-room g d (deep s d e) l kind i) cs g;
           stands = λ l. now-stands s d e ws n cs l;
         }

@@ -1,7 +1,7 @@
--- Words that hold a pool of a table whose threads are linked: the start leaves such words, every choice keeps them so, and they have
--- what Roomy says of them.
+-- Words that hold a pool of a table whose threads are linked: the start leaves such words, every choice keeps them so, and so does
+-- another purse; and they have what Roomy says of them.
 use Prim.Native.Nat.{ℕ, _≤_, _<_}
-use mathlib.Core.Path.{_≡_, refl, sym, _∙_, subst}
+use mathlib.Core.Path.{_≡_, refl, sym, _∙_, ap, subst}
 use mathlib.Core.List.{List, [], _∷_}
 use native.Mathlib.Omega.{arith}
 use lib.IntN.{ℤ}
@@ -10,7 +10,7 @@ use Rattle.model.specs.Numbers as No
 use Rattle.model.specs.Answers.{Refusal, Answer, numberOf}
 use Rattle.model.specs.Lists.{Each}
 use Rattle.model.specs.Syntax.{Program}
-use Rattle.model.specs.Pool.{Frame, Thread, mostFrames, poolWords, frames, functionOf, started}
+use Rattle.model.specs.Pool.{Frame, Thread, Pool, mostFrames, poolWords, frames, functionOf, started}
 use Rattle.model.specs.Valid.{IsFrame, IsOlder, IsThread}
 use Rattle.model.specs.Rules.{Result, choice}
 use Rattle.model.specs.Calls as Calls
@@ -21,6 +21,7 @@ use Rattle.model.proofs.Valid.{pool-facts}
 use Rattle.model.proofs.Words.{lent-given, lent-words, started-pool}
 use Rattle.model.proofs.Kept.{choose-lent, choose-kept}
 use Rattle.model.proofs.Numbers.{choose-leaves}
+use Rattle.tokens.specs.Purses.{stacks, Repursed}
 use Rattle.safety.proofs.Words.{refused-number}
 use Rattle.safety.proofs.Theorem.{starts}
 use Rattle.chains.specs.Chains.{Deepest}
@@ -43,6 +44,16 @@ held-start s P ws r n =
       pool = lent-words s P started r (started-pool P (read-limits s P r));
       linked = (tt, tt);
     })
+
+-- threads are linked by their frames alone
+linked-stacks : (P : Program) (p p′ : Pool) → stacks p ≡ stacks p′ → Each (Linked P) p → Each (Linked P) p′
+linked-stacks P [] [] e h = h
+linked-stacks P [] (u ∷ us) e h = absurd (omega (arith, ap length e))
+linked-stacks P (t ∷ ts) [] e h = absurd (omega (arith, ap length e))
+linked-stacks P (t ∷ ts) (u ∷ us) e h =
+    let k : t .newest ≡ u .newest = cc in
+    let K : t .older ≡ u .older = cc in
+    (rw (k, K) at (h .0), linked-stacks P ts us (cc) (h .1))
 
 -- the function of a valid thread's oldest frame is there
 oldest-there : (P : Program) (k : Frame) (K : List Frame) → IsFrame P k → Each (IsOlder P) K → oldestFunction (k .function) K < length P
@@ -70,6 +81,18 @@ module _ {s : List ℕ} {ws : List ℤ} (g : Held s ws) where
             linked = subst (Keeps (g .lends .table)) (c .made) (held-choice kind i);
           }
       go (Answer.refused r) e = rw (choose-leaves s ws kind i e) g
+
+  -- words that differ in work and tokens alone are such words too
+  pub held-aside : {ws′ : List ℤ} → Repursed s ws ws′ → Held s ws′
+  held-aside {ws′} r =
+      let b : r .before ≡ g .lends = given-injective (sym (r .lends) ∙ g .pool) in
+      let P : g .lends .table ≡ r .after .table = given-injective (sym held-reads ∙ lent-given s ws′ (r .after) (r .lends′) .reads) in
+      let e = ap (λ (l : Lent). stacks (l .pool)) (sym b) ∙ r .same in
+      record {
+        lends = r .after;
+        pool = r .lends′;
+        linked = rw P at (linked-stacks (g .lends .table) (g .lends .pool) (r .after .pool) e (g .linked));
+      }
 
   pub held-chained : Chained s ws
   held-chained =

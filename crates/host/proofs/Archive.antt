@@ -1,6 +1,6 @@
 -- The tidy table in the place of the old one, from the theorem on two numberings and the laws of the exports.
 use Prim.Native.Nat.{ℕ}
-use mathlib.Core.Path.{_≡_, refl, sym, _∙_, ap, subst}
+use mathlib.Core.Path.{_≡_, refl, sym, _∙_, ap, ap₂, subst}
 use mathlib.Core.Bool.{true}
 use mathlib.Core.Option.{Option}
 use mathlib.Core.List.{List, [], _∷_}
@@ -14,7 +14,7 @@ use Rattle.safety.proofs.Theorem.{demand3}
 use Rattle.numbering.specs.Means.{Alike}
 use Rattle.host.specs.Macros.{isGiven, value, poolWords}
 use Rattle.host.specs.Exports as Exports
-use Rattle.host.specs.Exports.{done, asNumber}
+use Rattle.host.specs.Exports.{done, asNumber, beatNumber}
 use Rattle.host.specs.Contracts.{Start}
 use Rattle.host.specs.Sessions.{Call, Made, Session}
 use Rattle.host.specs.Archive.{Instead, Archive}
@@ -28,6 +28,10 @@ flip A =
       choose = λ kind thread. sym (A .choose kind thread);
       schedule = λ cs. sym (A .schedule cs);
       made = λ cs. sym (A .made cs);
+      beat = λ thread N C. sym (A .beat thread N C);
+      run = λ N C threads. sym (A .run N C threads);
+      steps = λ N C threads. sym (A .steps N C threads);
+      promotions = λ N C threads. sym (A .promotions N C threads);
       values = sym (A .values);
       which = A .which-back;
       which-back = A .which;
@@ -51,6 +55,22 @@ call-again s t w w′ A (Call.schedule cs r made) v m =
       call = Model.Call.schedule cs;
       leaves = m .words;
       made = record { number = m .number ∙ ap done (A .schedule cs); count = m .count ∙ A .made cs; words = refl };
+    }
+call-again s t w w′ A (Call.beat thread n c r) v m =
+    record {
+      call = Model.Call.beat thread n c;
+      leaves = m .words;
+      made = record { number = m .number ∙ ap beatNumber (A .beat thread n c); words = refl };
+    }
+call-again s t w w′ A (Call.run n c threads r steps promotions) v m =
+    record {
+      call = Model.Call.run n c threads;
+      leaves = m .words;
+      made = record {
+        number = m .number ∙ ap done (A .run n c threads);
+        counts = m .counts ∙ ap₂ {C = List ℕ} (λ i j. i ∷ j ∷ []) (A .steps n c threads) (A .promotions n c threads);
+        words = refl;
+      };
     }
 call-again s t w w′ A (Call.which r) v m =
     let f = m .0 in

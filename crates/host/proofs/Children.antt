@@ -3,12 +3,9 @@ use Prim.Native.Nat.{ℕ, suc, _+_}
 use mathlib.Core.Path.{_≡_, refl, sym, _∙_, ap, subst}
 use mathlib.Core.Bool.{Bool, true, false}
 use mathlib.Core.Option.{Option, none, some}
-use mathlib.Core.List.{List, [], _∷_, _++_, map, map-append}
-use native.Mathlib.Nat.{add-zero}
+use mathlib.Core.List.{List, [], _∷_, map}
 use lib.IntN.{ℤ, pos}
-use lib.ListN.{length, getD, getElem?, take, length-map}
-use lib.Seq.{take-at}
-use Rattle.model.specs.Numbers as No
+use lib.ListN.{length, getD, getElem?}
 use Rattle.model.specs.Answers.{Answer}
 use Rattle.model.specs.Lists.{Each}
 use Rattle.model.specs.Sets.{has, _∈_}
@@ -17,14 +14,13 @@ use Rattle.model.specs.Pool.{Frame, frames, begin, functionOf, children}
 use Rattle.model.specs.Frames.{_>>=_, when, look, lookAll}
 use Rattle.model.specs.Calls as Calls
 use Rattle.model.specs.Calls.{Lent, lent, read}
-use Rattle.model.proofs.Facts.{none-some, some-injective, given-injective, each-at, at-second, map-some, map-at}
+use Rattle.model.proofs.Facts.{none-some, some-injective, given-injective, each-at, map-some, map-at}
 use Rattle.model.proofs.Words.{lent-given}
 use Rattle.safety.specs.NeverJams as Model
-use Rattle.safety.specs.NeverJams.{ofCall, choices}
+use Rattle.safety.specs.InTurn.{InTurn}
 use Rattle.sporks.specs.Openers.{opener}
 use Rattle.sporks.specs.Handed.{replyTo, replies, argumentsOf, OpenCall, Hands}
-use Rattle.sporks.proofs.Theorem.{arguments-kept}
-use Rattle.host.specs.Macros.{poolWords}
+use Rattle.sporks.proofs.Theorem.{next-hands}
 use Rattle.host.specs.Contracts.{Choose}
 use Rattle.host.specs.Laws.{answerIn}
 use Rattle.host.specs.Roomy.{frameCount}
@@ -53,25 +49,14 @@ module _ (k : Frame) where
           let (a, b) = r w̄ refl in
           ((h, a), rw (← some-injective e, b))
 
--- choices put one by one, as calls and puts of the model
-abbrev asCall : Put → Model.Call
-asCall p = Model.Call.choose (p .kind) (p .thread)
-
+-- choices put one by one, as puts of the model
 abbrev asPut : Put → Model.Put
 asPut p = record { words = p .words; kind = p .kind; thread = p .thread }
 
 module _ (s : List ℕ) where
-  log-puts : (ws : List ℤ) (ps : List Put) (w : List ℤ) → Log s ws ps w → choices s ws (map asCall ps) ≡ map asPut ps
-  unfolding choices ofCall
-  log-puts ws [] w l = refl
-  log-puts ws (p ∷ ps) w l =
-      let (v, m, l′) = l .1 in
-      rw (← m .words, ← l .0) (ap {B = List Model.Put} (λ qs. asPut p ∷ qs) (log-puts v ps w l′))
-
-  log-next : (ws : List ℤ) (ps : List Put) (w : List ℤ) → Log s ws ps w → (p : Put) (w′ : List ℤ) → p .words ≡ w →
-      Choose s w (p .kind) (p .thread) (p .number) w′ → Log s ws (ps ++ (p ∷ [])) w′
-  log-next ws [] w l p w′ e m = (e ∙ l, (w′, rw l at m, refl))
-  log-next ws (q ∷ ps) w l p w′ e m = let (v, a, l′) = l .1 in (l .0, (v, a, log-next v ps w l′ p w′ e m))
+  log-turns : (ws : List ℤ) (ps : List Put) (w : List ℤ) → Log s ws ps w → InTurn s ws (map asPut ps) w
+  log-turns ws [] w l = l
+  log-turns ws (p ∷ ps) w l = let (v, m, l′) = l .1 in (l .0, rw (m .words) at (log-turns v ps w l′))
 
   -- what each of them answered
   abbrev Answers : Put → Type 0
@@ -82,30 +67,13 @@ module _ (s : List ℕ) where
 
   log-answers : (ws : List ℤ) (ps : List Put) (w : List ℤ) → Log s ws ps w → Each Answers ps
   log-answers ws [] w l = tt
-  log-answers ws (p ∷ ps) w l = let (v, m, l′) = l .1 in (answers p ws v (l .0) m, log-answers v ps w l′)
+  log-answers ws (p ∷ ps) w l = let (v, m, l′) = l .1 in (answers p (p .words) v refl m, log-answers v ps w l′)
 
   log-seen : (ps : List Put) → Each Answers ps → replies s (map asPut ps) ≡ map seen ps
   log-seen [] h = refl
   log-seen (p ∷ ps) h =
       let e : replyTo s (asPut p) ≡ seen p = ap (λ a. record { thread = p .thread; answer = a }) (h .0) in
       rw (e, log-seen ps (h .1))
-
--- the model's claim on a promotion that comes next
-module _ (s : List ℕ) (ws : List ℤ) (h : Calls.check s ≡ Answer.given tt) (n : length ws ≡ poolWords)
-    (ps : List Put) (w : List ℤ) (l : Log s (Calls.start s ws .after) ps w)
-    (p : Put) (w′ : List ℤ) (e : p .words ≡ w) (m : Choose s w (p .kind) (p .thread) (p .number) w′) where
-  handed : replyTo s (asPut p) .answer ≡ Answer.given No.promote → Hands s (map asPut ps) (asPut p)
-  handed a =
-      let qs = ps ++ (p ∷ []) in
-      let is = log-puts s _ qs w′ (log-next s _ ps w l p w′ e m) in
-      let last : getElem? qs (length ps) ≡ some p = rw (← add-zero (length ps)) (at-second ps (p ∷ []) 0) in
-      let before : take (length ps) (map asPut qs) ≡ map asPut ps =
-      rw (map-append asPut ps (p ∷ [])) (take-at (map asPut ps) _ (length ps) (length-map ps asPut))
-      in
-      let c =
-      arguments-kept s ws h n (map asCall qs) .promotions (length ps) (asPut p) (rw (is, map-at asPut qs (length ps), last) refl) a
-      in
-      subst (λ (xs : List Model.Put). Hands s xs (asPut p)) (ap (take (length ps)) is ∙ before) c
 
 -- what the model claims of a promotion, read from words and numbers
 module _ (s : List ℕ) {P : Program} (R : read s ≡ Answer.given P) where
@@ -164,6 +132,6 @@ module _ (s : List ℕ) {P : Program} (R : read s ≡ Answer.given P) where
 pub exports-hand : Children
 exports-hand s P c k g R ws n r started st ps w l p w′ e m i v =
     let h = done-read c (Calls.check s) (check-law s c k .answers) g in
-    let l′ : Log s (Calls.start s ws .after) ps w = rw (st .words) at l in
+    let turns : InTurn s (Calls.start s ws .after) (map asPut ps) (p .words) = rw (e, ← st .words) (log-turns s started ps w l) in
     let a = answers s p w w′ e m ∙ given-read (p .number) i ∙ ap Answer.given v in
-    began s R ps (log-answers s started ps w l) p w′ (rw e (m .words)) (handed s ws h n ps w l′ p w′ e m a)
+    began s R ps (log-answers s started ps w l) p w′ (rw e (m .words)) (next-hands s ws h n (map asPut ps) (asPut p) turns a)

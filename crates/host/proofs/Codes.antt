@@ -1,5 +1,5 @@
 -- What the macros read in the number of an answer is that answer.
-use Prim.Native.Nat.{ℕ, _+_, _^_, _/_, _%_, _≤_, _<_}
+use Prim.Native.Nat.{ℕ, _+_, _*_, _^_, _/_, _%_, _≤_, _<_}
 use mathlib.Core.Path.{_≡_, refl}
 use mathlib.Core.Logic.{_⊎_, inl, inr}
 use mathlib.Core.Bool.{true, false}
@@ -14,9 +14,10 @@ use Rattle.model.specs.Numbers.{Within}
 use Rattle.model.specs.Answers.{Refusal, Answer}
 use Rattle.model.proofs.Facts.{eq-eqb, ne-eqb, le-leb, lt-leb, both-and, right-false, true-false}
 use Rattle.model.proofs.Numbers as Numbers
+use Rattle.tokens.specs.Beats.{Beat}
 use Rattle.answers.specs.Coded.{given, codeOf}
 use Rattle.host.specs.Macros.{isGiven, value, number, place, block, function}
-use Rattle.host.specs.Exports.{done, asNumber, stepperOf, counted}
+use Rattle.host.specs.Exports.{done, asNumber, beatNumber, stepperOf, counted}
 use Rattle.host.specs.Laws.{placed, refusalIn, answerIn}
 
 -- a number with bit 32, and one without
@@ -33,30 +34,38 @@ pub given-in : (v : ℕ) → v < 2 ^ 32 → answerIn (given v) ≡ Answer.given 
 unfolding answerIn
 given-in v h = rw (given-is v h, given-value v h)
 
+-- the numbers of refusals without a place: 1, 2, 12 to 24 and 27
+pub data Bare (n : ℕ) : Type 0 where
+  ofTable : Within 1 2 n → Bare n
+  ofCall : Within 12 24 n → Bare n
+  ofPace : n ≡ No.pace → Bare n
+
 -- a refusal that a number has room for
 abbrev pub Fits : Refusal → Type 0
-Fits (Refusal.plain n) = Within 1 2 n ⊎ Within 12 24 n
+Fits (Refusal.plain n) = Bare n
 Fits (Refusal.byte at) = at ≤ 16384
 Fits (Refusal.fault n f b) = (Within 4 11 n ⊎ Within 25 26 n) × (f < 16) × (b < 256)
 
 pub small : (q : Refusal) → Fits q → codeOf q < 2 ^ 32
-small (Refusal.plain n) (inl h) = omega arith
-small (Refusal.plain n) (inr h) = omega arith
+small (Refusal.plain n) (Bare.ofTable h) = omega arith
+small (Refusal.plain n) (Bare.ofCall h) = omega arith
+small (Refusal.plain n) (Bare.ofPace h) = omega arith
 small (Refusal.byte at) h = omega arith
 small (Refusal.fault n f b) (inl w, i, j) = omega arith
 small (Refusal.fault n f b) (inr w, i, j) = omega arith
 
 -- 3, 4 to 11, 25 and 26 have a place
-unplaced : (n : ℕ) → Within 1 2 n ⊎ Within 12 24 n → (eqb n No.form ≡ false) × (placed n ≡ false)
+unplaced : (n : ℕ) → Bare n → (eqb n No.form ≡ false) × (placed n ≡ false)
 unfolding placed
-unplaced n (inl h) = (
+unplaced n (Bare.ofTable h) = (
   ne-eqb n No.form (λ e. omega arith),
   rw (lt-leb No.main n (omega arith), lt-leb No.unreached n (omega arith)),
 )
-unplaced n (inr h) = (
+unplaced n (Bare.ofCall h) = (
   ne-eqb n No.form (λ e. omega arith),
   rw (right-false (leb No.main n) _ (lt-leb n No.nesting (omega arith)), lt-leb No.unreached n (omega arith)),
 )
+unplaced n (Bare.ofPace h) = rw h (refl, refl)
 
 is-placed : (n : ℕ) → Within 4 11 n ⊎ Within 25 26 n → (eqb n No.form ≡ false) × (placed n ≡ true)
 unfolding placed
@@ -73,7 +82,7 @@ is-placed n (inr h) = (
 )
 
 module _ (r : ℕ) where
-  pub plain-in : (n : ℕ) → number r ≡ n → Within 1 2 n ⊎ Within 12 24 n → refusalIn r ≡ Refusal.plain n
+  pub plain-in : (n : ℕ) → number r ≡ n → Bare n → refusalIn r ≡ Refusal.plain n
   unfolding refusalIn
   plain-in n e h = let (p, q) = unplaced n h in rw (e, p, q)
 
@@ -87,8 +96,9 @@ module _ (r : ℕ) where
   fault-in n f b e h i j = let (p, q) = is-placed n h in rw (e, p, q, i, j)
 
 pub refusal-in : (q : Refusal) → Fits q → refusalIn (codeOf q) ≡ q
-refusal-in (Refusal.plain n) (inl h) = plain-in n n (omega arith) (inl h)
-refusal-in (Refusal.plain n) (inr h) = plain-in n n (omega arith) (inr h)
+refusal-in (Refusal.plain n) (Bare.ofTable h) = plain-in n n (omega arith) (Bare.ofTable h)
+refusal-in (Refusal.plain n) (Bare.ofCall h) = plain-in n n (omega arith) (Bare.ofCall h)
+refusal-in (Refusal.plain n) (Bare.ofPace h) = plain-in n n (omega arith) (Bare.ofPace h)
 refusal-in (Refusal.byte at) h = byte-in _ at (omega arith) (omega arith)
 refusal-in (Refusal.fault n f b) (inl w, i, j) = fault-in _ n f b (omega arith) (inl w) (omega arith) (omega arith)
 refusal-in (Refusal.fault n f b) (inr w, i, j) = fault-in _ n f b (omega arith) (inr w) (omega arith) (omega arith)
@@ -109,6 +119,14 @@ done-code = record { gives = λ x. refl; refuses = λ q. refl }
 pub number-code : Code asNumber (λ rule. rule)
 unfolding asNumber
 number-code = record { gives = λ x. refl; refuses = λ q. refl }
+
+-- a beat's rule and promotions
+abbrev pub ruled : Beat → ℕ
+ruled b = b .rule + 256 * b .promotions
+
+pub beat-code : Code beatNumber ruled
+unfolding beatNumber
+beat-code = record { gives = λ x. refl; refuses = λ q. refl }
 
 abbrev pub thread : Option ℕ → ℕ
 thread none = 8

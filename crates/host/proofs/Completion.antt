@@ -30,7 +30,7 @@ use Rattle.host.specs.Macros.{isGiven, value, number, block, function}
 use Rattle.host.specs.Exports.{done, asNumber}
 use Rattle.host.specs.Contracts.{Read, Complete}
 use Rattle.host.specs.Laws.{answerIn, OfTable, OfCompletion, CompleteTells}
-use Rattle.host.proofs.Codes.{Fits, given-is, given-in, refused-in}
+use Rattle.host.proofs.Codes.{Bare, Fits, given-is, given-in, refused-in}
 use Rattle.host.proofs.Tables.{table-fits, table-told}
 use Rattle.host.proofs.Macros.{read-given, read-refused}
 
@@ -79,7 +79,7 @@ reads-2 : (s : List ℕ) (P : Program) → Read.readBrief s ≡ Answer.given P �
 unfolding done outcome numberOf
 reads-2 s P e c k =
     let n : c ≡ codeOf (Refusal.plain No.version) = k ∙ ap (λ (a : Answer Program). done (outcome a)) (brief-version s P e) in
-    read-refused c (ap answerIn n ∙ refused-in (Refusal.plain No.version) (inl (lit≤ tt, lit≤ tt)))
+    read-refused c (ap answerIn n ∙ refused-in (Refusal.plain No.version) (Bare.ofTable (lit≤ tt, lit≤ tt)))
 
 -- the parts of a fault's number
 fault-parts : (n f b : ℕ) → n < 256 → f < 16 → b < 256 →
@@ -159,7 +159,7 @@ module _ (s out words : List ℕ) (r : ℕ) (out′ words′ : List ℕ) where
       of-table q u = rw u at (brief-can s)
   said _ _ _ e (Says.lent {P} u h) n o w =
       let l : number r ≡ 24 = ap number n in
-      stops s out words r out′ words′ _ (inr (lit≤ tt, lit≤ tt)) n e o (λ g. absurd (omega arith))
+      stops s out words r out′ words′ _ (Bare.ofCall (lit≤ tt, lit≤ tt)) n e o (λ g. absurd (omega arith))
       (OfCompletion.ofLent l (not-enough out words h)) (λ g. absurd (omega arith)) (λ _. w) (λ _. reads-2 s P u)
   said _ _ _ e (Says.unreached {f} {b} h U) n o w =
       let (i, j) = in-table s (U .program) (U .reads) f (U .there) in

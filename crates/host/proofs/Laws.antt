@@ -42,33 +42,18 @@ use Rattle.host.specs.Laws as Laws
 use Rattle.host.specs.Laws.{answerIn, threadIn, valuesIn, fresh, Placed, OfTable, OfProgram, OfPool, OfChoice, StopsAt}
 use Rattle.host.specs.Laws.{ReadTells, CheckTells, DepthTells, TidyTells, StartTells, ChooseTells, ScheduleTells, WhichTells}
 use Rattle.host.specs.Laws.{ValuesTells}
-use Rattle.host.proofs.Codes.{Fits, Gave, Refused, done-code, number-code, stepper-code, counted-code, thread, count}
+use Rattle.host.proofs.Codes.{Bare, Fits, Gave, number-code, stepper-code, counted-code, thread, count}
 use Rattle.host.proofs.Codes.{given-in, refused-in, valued, tells, gave, refused}
 use Rattle.host.proofs.Tables.{table-fits, table-told}
+use Rattle.host.proofs.Refusals.{start-fits, start-told, lent-fits, lent-told, pool-below, done-in, done-gave, done-refused}
+use Rattle.host.proofs.Beats.{beat-law, run-law}
 use Rattle.host.proofs.Completion.{complete-law}
 use Rattle.host.proofs.Macros.{read-given, read-refused, done-read, stopped-read, read-done}
 
--- what the model can refuse fits into a number, and what the macros then read
-start-fits : {s : List ℕ} (q : Refusal) → Numbers.OfStart s q → Fits q
-start-fits _ (Numbers.OfStart.table h) = table-fits _ h
-start-fits _ Numbers.OfStart.words = inr (lit≤ tt, lit≤ tt)
-
-start-told : {s : List ℕ} {q : Refusal} → Numbers.OfStart s q → OfTable s (codeOf q) ⊎ (number (codeOf q) ≡ No.words)
-start-told (Numbers.OfStart.table h) = inl (table-told h)
-start-told Numbers.OfStart.words = inr refl
-
-pub lent-fits : {s : List ℕ} (q : Refusal) → Numbers.OfLent s q → Fits q
-lent-fits _ (Numbers.OfLent.start h) = start-fits _ h
-lent-fits _ Numbers.OfLent.pool = inr (lit≤ tt, lit≤ tt)
-
-lent-told : {s : List ℕ} {q : Refusal} → Numbers.OfLent s q → OfPool s (codeOf q)
-lent-told (Numbers.OfLent.start (Numbers.OfStart.table h)) = inl (table-told h)
-lent-told (Numbers.OfLent.start Numbers.OfStart.words) = inr (lit≤ tt, lit≤ tt)
-lent-told Numbers.OfLent.pool = inr (lit≤ tt, lit≤ tt)
-
+-- what a choice can be refused fits into a number, and what the macros then read
 choice-fits : {s : List ℕ} (q : Refusal) → Numbers.OfChoice s q → Fits q
 choice-fits _ (Numbers.OfChoice.lends h) = lent-fits _ h
-choice-fits _ (Numbers.OfChoice.chosen w) = inr (omega arith, omega arith)
+choice-fits _ (Numbers.OfChoice.chosen w) = Bare.ofCall (omega arith, omega arith)
 
 wider : {s : List ℕ} {r : ℕ} → OfPool s r → OfChoice s r
 wider (inl h) = inl h
@@ -127,27 +112,6 @@ check-told : {s : List ℕ} {q : Refusal} → Numbers.OfCheck s q → OfTable s 
 check-told (Numbers.OfCheck.table h) = inl (table-told h)
 check-told (Numbers.OfCheck.program e h) = inr (fault-told (lies e) h)
 
--- the value 0, and answers that give nothing more
-module _ (a : Answer (Unit {0})) (G : Unit {0} → Type 0) (R : Refusal → Type 0) (fits : (q : Refusal) → R q → Fits q)
-    (can : Can G R a) where
-  room : (u : Unit {0}) → G u → 0 < 2 ^ 32
-  room u h = omega arith
-
-  done-in : outcome (answerIn (done a)) ≡ a
-  unfolding outcome
-  done-in = ap outcome (tells done-code G R room fits a can) ∙ back a
-    where
-      back : (a : Answer (Unit {0})) → outcome (valued (λ _. 0) a) ≡ a
-      back (Answer.given u) = refl
-      back (Answer.refused q) = refl
-
-  -- given: the value is 0, and what holds then
-  done-gave : isGiven (done a) ≡ true → Gave (λ _. 0) G a (done a)
-  done-gave e = gave done-code G R room fits a can e
-
-  done-refused : isGiven (done a) ≡ false → Refused R a (done a)
-  done-refused e = refused done-code G R room fits a can e
-
 outcome-can : {A : Type 0} (R : Refusal → Type 0) (a : Answer A) → Can Any R a → Can Any R (outcome a)
 unfolding outcome
 outcome-can R (Answer.given x) h = tt
@@ -184,7 +148,7 @@ data OfDepth (s : List ℕ) : Refusal → Type 0 where
 
 depth-fits : {s : List ℕ} (q : Refusal) → OfDepth s q → Fits q
 depth-fits _ (OfDepth.check h) = check-fits _ h
-depth-fits _ OfDepth.cycle = inr (lit≤ tt, lit≤ tt)
+depth-fits _ OfDepth.cycle = Bare.ofCall (lit≤ tt, lit≤ tt)
 
 module _ (s : List ℕ) where
   depth-can : Can (Within 1 16) (OfDepth s) (depth s)
@@ -330,7 +294,7 @@ tidy-law s out r out′ m = go (tidied s out)
           unwritten = λ z. true-false (isGiven r) (p .yes) z;
         }
     go (Tidied.short h t T l e) =
-        let (n, a, not) = was-refused s out (Refusal.plain No.room) r out′ m (inr (lit≤ tt, lit≤ tt)) e in
+        let (n, a, not) = was-refused s out (Refusal.plain No.room) r out′ m (Bare.ofCall (lit≤ tt, lit≤ tt)) e in
         record {
           answers = a ∙ sym (ap (λ (w : Wrote). w .answer) e);
           given = λ g. true-false (isGiven r) g not;
@@ -357,7 +321,7 @@ tidy-archived s out r out′ m g = go (tidied s out)
         let p = was-put s out t r out′ m (tidies-short h T) e in
         record { accepted = h; tidies = rw (p .front) T }
     go (Tidied.short h t T l e) =
-        true-false (isGiven r) g (was-refused s out (Refusal.plain No.room) r out′ m (inr (lit≤ tt, lit≤ tt)) e .2)
+        true-false (isGiven r) g (was-refused s out (Refusal.plain No.room) r out′ m (Bare.ofCall (lit≤ tt, lit≤ tt)) e .2)
 
 -- the words of the fresh pool
 started-fresh : wordsOf started ≡ fresh
@@ -403,16 +367,12 @@ choose-law s ws kind thread r ws′ g =
 -- a list of choices
 schedule-fits : {s : List ℕ} {ws ws′ : List ℤ} {cs : List Choice} {made : ℕ} (q : Refusal) → Numbers.OfSchedule s ws cs q made ws′ → Fits q
 schedule-fits _ (Numbers.OfSchedule.lends h) = lent-fits _ h
-schedule-fits _ (Numbers.OfSchedule.chosen w c there e) = inr (omega arith, omega arith)
+schedule-fits _ (Numbers.OfSchedule.chosen w c there e) = Bare.ofCall (omega arith, omega arith)
 
 record Stopped (s : List ℕ) (ws : List ℤ) (cs : List Choice) (r made : ℕ) (ws′ : List ℤ) : Type 0 where
   choice : OfChoice s r
   before : number r < No.kind → (made ≡ 0) × (ws′ ≡ ws)
   stops : No.kind ≤ number r → StopsAt s ws′ cs r made
-
-pool-below : {s : List ℕ} {r : ℕ} → OfPool s r → number r < No.kind
-pool-below (inl h) = omega (arith, h .numbered .1)
-pool-below (inr h) = omega arith
 
 schedule-told : {s : List ℕ} {ws ws′ : List ℤ} {cs : List Choice} {made : ℕ} {q : Refusal} → Numbers.OfSchedule s ws cs q made ws′ →
     Stopped s ws cs (codeOf q) made ws′
@@ -571,6 +531,8 @@ laws =
       start = start-law;
       choose = choose-law;
       schedule = schedule-law;
+      beat = beat-law;
+      run = run-law;
       which = which-law;
       values = values-law;
     }

@@ -1,11 +1,14 @@
 pub mod Codes
 pub mod Counts
 pub mod Tables
+pub mod Refusals
+pub mod Beats
 pub mod Completion
 pub mod Laws
 pub mod Macros
 pub mod Sessions
 pub mod Roomy
+pub mod Tokens
 pub mod Archive
 pub mod Places
 pub mod Singly

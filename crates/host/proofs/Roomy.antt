@@ -21,13 +21,14 @@ use Rattle.chains.specs.Roomy as Chains
 use Rattle.chains.specs.Roomy.{Few}
 use Rattle.chains.proofs.Means.{depth-means}
 use Rattle.chains.proofs.Theorem.{now-few, now-room, now-stands, waiting-steps}
-use Rattle.host.specs.Macros.{value, number, poolWords, noThread}
+use Rattle.host.specs.Macros.{value, number, poolWords, step, noThread}
 use Rattle.host.specs.Contracts.{Choose, Which}
 use Rattle.host.specs.Laws.{refusalIn}
 use Rattle.host.specs.Sessions.{Call, Made, Session, Returned, CanStep}
 use Rattle.host.specs.Roomy.{Unfilled, NotFull, frameCount, Roomy, Depth}
 use Rattle.host.proofs.Macros.{refusal-number, given-read, refused-read, read-done}
 use Rattle.host.proofs.Laws.{depth-law, start-law, choose-law, schedule-law}
+use Rattle.host.proofs.Beats.{beat-step, run-step}
 use Rattle.host.proofs.Counts.{counts-few}
 use Rattle.host.proofs.Sessions.{Reached, reached-lent, returned, can-step, none-steps, waits, call-safe, session-safe, begun}
 
@@ -61,7 +62,7 @@ module _ (s : List ℕ) (d : ℕ) (D : depth s ≡ Answer.given d) (ws : List �
         Model.CanStep s w
     at-waiting g i = rw (← g .is) (waiting-steps s d D ws n (g .calls) l i)
 
-    -- a choice, and a list of choices, which stops at a choice that is answered the same
+    -- a choice; a list of choices, a beat and a run stop at a choice that is answered the same
     choose-room : {w : List ℤ} → At w → (kind thread r : ℕ) (w′ : List ℤ) → Choose s w kind thread r w′ → Unfilled r
     unfolding Chains.NotFull
     choose-room {w} g kind thread r w′ m e =
@@ -76,6 +77,11 @@ module _ (s : List ℕ) (d : ℕ) (D : depth s ≡ Answer.given d) (ws : List �
         let a = Calls.choose s w′ (c .kind) (c .thread) in
         let same = S .again _ (a .after) (record { number = refl; words = refl }) in
         choose-room g′ (c .kind) (c .thread) r (a .after) (record { number = sym same; words = refl }) e i
+    call-room w (Call.beat thread i c r) w′ g g′ m = λ e x.
+        choose-room g step thread r _ (beat-step s w thread i c r w′ m e (omega arith, omega arith)) e x
+    call-room w (Call.run i c threads r steps made) w′ g g′ m = λ e x.
+        let (j, k) = run-step s w i c threads r steps made w′ m e (omega arith, omega arith) in
+        choose-room g′ step j r _ k e x
     call-room w (Call.which r) w′ g g′ m = tt
     call-room w (Call.values vs r vs′) w′ g g′ m = tt
 

@@ -7,6 +7,7 @@ use mathlib.Core.Option.{Option, none, some}
 use mathlib.Core.List.{List, [], _∷_, _++_, append-assoc}
 use native.Mathlib.Omega.{arith}
 use lib.Dec.{eqb, lit≤}
+use lib.Arith.{lt-of-le-ne}
 use lib.IntN.{ℤ}
 use lib.ListN.{length}
 use Rattle.model.specs.Numbers as No
@@ -28,13 +29,16 @@ use Rattle.safety.specs.NeverJams as Model
 use Rattle.safety.specs.NeverJams.{left, finally, whileGiven, ofSchedule, ofCall, choices}
 use Rattle.safety.proofs.Theorem.{demand3, now, always-pool, waiting-moves}
 use Rattle.host.specs.Macros.{isGiven, value, number, poolWords, step, noThread}
-use Rattle.host.specs.Contracts.{Choose, Schedule, Which, Values}
+use Rattle.host.specs.Contracts.{Choose, Schedule, Beat, Run, Which, Values}
 use Rattle.host.specs.Laws.{refusalIn, threadIn, OfChoice}
-use Rattle.host.specs.Sessions.{Call, Made, Session, Unstuck, Answered, Returned, CanStep, OutOfFrames, Stands, Safe, Demand3}
-use Rattle.host.proofs.Codes.{counted-code, count, is-given, plain-in}
+use Rattle.host.specs.Sessions.{Call, Made, Session, Unstuck, Unjammed, Answered, Returned, CanStep, OutOfFrames, Stands, Safe}
+use Rattle.host.specs.Sessions.{Demand3}
+use Rattle.host.proofs.Codes.{Bare, counted-code, count, is-given, plain-in}
 use Rattle.host.proofs.Macros.{refusal-number, given-read, refused-read, read-given, read-refused, done-read}
 use Rattle.host.proofs.Macros.{stopped-read, read-done}
-use Rattle.host.proofs.Laws.{Four, four-room, lent-fits, check-law, start-law, choose-law, schedule-law, which-law}
+use Rattle.host.proofs.Refusals.{lent-fits}
+use Rattle.host.proofs.Beats.{beat-stopping, run-stopping, beat-step, run-step}
+use Rattle.host.proofs.Laws.{Four, four-room, check-law, start-law, choose-law, schedule-law, which-law}
 
 -- calls behind calls
 finally-append : (s : List ℕ) (ws : List ℤ) (cs ds : List Model.Call) → finally s ws (cs ++ ds) ≡ finally s (finally s ws cs) ds
@@ -148,6 +152,34 @@ module _ (s : List ℕ) (w : List ℤ) (lends : (l : Lent) × (lent s w ≡ Answ
       let t = schedule-law s w cs r made w′ m in
       unstuck r (t .refused e) (schedule-answered s cs w (lends .0) (lends .1) a (stopped-read r _ (t .answers) e))
 
+  -- a step is never stuck
+  abbrev Unstopped : Type 0
+  Unstopped = (i : ℕ) → Model.Answered s (record { words = w; kind = step; thread = i })
+
+  step-unjammed : (thread r : ℕ) (w′ : List ℤ) → Unstopped → Choose s w step thread r w′ → isGiven r ≡ false →
+      Within No.thread No.stuck (number r) → Within No.thread No.frames (number r)
+  step-unjammed thread r w′ a m e x =
+      let l = lt-of-le-ne (x .1) (choose-unstuck step thread r w′ (a thread) m e .1) in
+      (x .0, omega (arith, l))
+
+  beat-unjammed : (thread n c r : ℕ) (w′ : List ℤ) → Unstopped → Beat s w thread n c r w′ → Unjammed r
+  beat-unjammed thread n c r w′ a m e = go (beat-stopping s w n c (lends .1) thread r w′ m e)
+    where
+      go : (number r ≡ No.pace) ⊎ Within No.thread No.stuck (number r) → (number r ≡ No.pace) ⊎ Within No.thread No.frames (number r)
+      go (inl x) = inl x
+      go (inr x) = inr (step-unjammed thread r _ a (beat-step s w thread n c r w′ m e x) e x)
+
+  -- a run stops at a beat of the words that it leaves
+  run-unjammed : (n c : ℕ) (threads : List ℕ) (r steps made : ℕ) (w′ : List ℤ) →
+      ((i v : ℕ) (w″ : List ℤ) → Choose s w′ step i v w″ → isGiven v ≡ false → Within No.thread No.stuck (number v) →
+      Within No.thread No.frames (number v)) →
+      Run s w n c threads r (steps ∷ made ∷ []) w′ → Unjammed r
+  run-unjammed n c threads r steps made w′ a m e = go (run-stopping s w n c (lends .1) threads r steps made w′ m e)
+    where
+      go : (number r ≡ No.pace) ⊎ Within No.thread No.stuck (number r) → (number r ≡ No.pace) ⊎ Within No.thread No.frames (number r)
+      go (inl x) = inl x
+      go (inr x) = let (i, k) = run-step s w n c threads r steps made w′ m e x in inr (a i r _ k e x)
+
   which-given : (r : ℕ) → Which s w r → isGiven r ≡ true
   unfolding Calls.Which threadIn
   which-given r m = go (isGiven r) refl
@@ -238,7 +270,7 @@ module _ (s : List ℕ) (w : List ℤ) (lends : (l : Lent) × (lent s w ≡ Answ
       Calls.choose s w 0 thread .answer ≡ Answer.refused (Refusal.plain No.waits)
   waits thread r w′ m e i =
       sym (choose-law s w step thread r w′ m .answers) ∙ refused-read r e ∙
-      ap Answer.refused (plain-in r No.waits i (inr (lit≤ tt, lit≤ tt)))
+      ap Answer.refused (plain-in r No.waits i (Bare.ofCall (lit≤ tt, lit≤ tt)))
 
   moves : Model.Moves s w → CanStep s w ⊎ OutOfFrames s w
   moves (inl c) = inl (can-step c)
@@ -260,6 +292,17 @@ module _ (s : List ℕ) (ws : List ℤ) (h : Calls.check s ≡ Answer.given tt) 
     schedule-unstuck s w (reached-lent s ws h n g) cs r made w′ (reached-answered s ws h n g (Model.Call.schedule cs)) m,
     rw (m .words) (reached-left s ws h n g (Model.Call.schedule cs)),
   )
+  call-safe w (Call.beat thread i c r) w′ g m = (
+    beat-unjammed s w (reached-lent s ws h n g) thread i c r w′ (λ j. reached-answered s ws h n g (Model.Call.choose step j) .0) m,
+    rw (m .words) (reached-left s ws h n g (Model.Call.beat thread i c)),
+  )
+  call-safe w (Call.run i c threads r steps made) w′ g m =
+      let g′ : At w′ = rw (m .words) (reached-left s ws h n g (Model.Call.run i c threads)) in (
+        run-unjammed s w (reached-lent s ws h n g) i c threads r steps made w′
+            (λ j v w″. step-unjammed s w′ (reached-lent s ws h n g′) j v w″
+            (λ j. reached-answered s ws h n g′ (Model.Call.choose step j) .0)) m,
+        g′,
+      )
   call-safe w (Call.which r) w′ g m = (which-given s w (reached-lent s ws h n g) r (m .0), rw (m .1) g)
   call-safe w (Call.values vs r vs′) w′ g m =
       let lends = reached-lent s ws h n g in

@@ -9,8 +9,8 @@ use Rattle.host.specs.Macros.{isGiven, value, poolWords}
 use Rattle.host.specs.Contracts.{Tidy, Start}
 use Rattle.host.specs.Sessions.{Call, Session}
 
--- every session with s from the words ws can be had with t from the words ws′: the same calls, answered the same numbers, with the same
--- number of choices made and the same values of main; and the other way round
+-- every session with s from the words ws can be had with t from the words ws′: the same calls, answered the same numbers, with as many
+-- choices, steps and promotions made and the same values of main; and the other way round
 pub record Instead (s t : List ℕ) (ws ws′ : List ℤ) : Type 0 where
   pub to : (cs : List Call) (w : List ℤ) → Session s ws cs w → (w′ : List ℤ) × Session t ws′ cs w′
   pub back : (cs : List Call) (w′ : List ℤ) → Session t ws′ cs w′ → (w : List ℤ) × Session s ws cs w

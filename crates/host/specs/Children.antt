@@ -1,27 +1,30 @@
 -- What a child began with, in the terms of the exported functions: a host that puts choices one by one to mezdaulk_choose, and keeps
 -- the numbers that they answer, knows which of them sporked each open call; and in the words that it lent to that one it finds the
--- values that the call's child begins with.
+-- values that the call's child begins with. Every session is such choices, work and tokens aside, and the number of a beat tells what
+-- its choices answer.
 use Prim.Native.Nat.{ℕ, zero, suc, _+_, _-_}
 use mathlib.Core.Path.{_≡_}
-use mathlib.Core.Bool.{true}
+use mathlib.Core.Bool.{true, cond}
 use mathlib.Core.Option.{some}
-use mathlib.Core.List.{List, [], _∷_, map}
+use mathlib.Core.List.{List, [], _∷_, _++_, map}
 use lib.IntN.{ℤ, pos}
-use lib.ListN.{length, getD, getElem?, take, drop}
+use lib.ListN.{length, getD, getElem?, take, drop, replicate}
 use Rattle.model.specs.Numbers as No
 use Rattle.model.specs.Answers.{Answer}
-use Rattle.model.specs.Lists.{Each, concat}
+use Rattle.model.specs.Lists.{Each}
 use Rattle.model.specs.Sets.{_∈_}
 use Rattle.model.specs.Syntax.{Transfer, SpawnCall, Function, Program}
 use Rattle.model.specs.Pool.{Frame, frameWords, startOf, frameOf, functionOf, begin}
 use Rattle.model.specs.Calls.{Choice, read}
 use Rattle.safety.specs.NeverJams.{At}
+use Rattle.safety.specs.InTurn.{Aside}
 use Rattle.sporks.specs.Openers.{Reply, opener}
-use Rattle.host.specs.Macros.{isGiven, value, poolWords}
+use Rattle.host.specs.Macros.{isGiven, value, rule, promotions, poolWords, step, promote}
 use Rattle.host.specs.Contracts.{Check, Start, Choose, Schedule}
 use Rattle.host.specs.Laws.{answerIn}
 use Rattle.host.specs.Sessions.{Call, Session}
 use Rattle.host.specs.Roomy.{frameCount}
+use Rattle.host.specs.Tokens.{sum}
 
 -- a choice put to mezdaulk_choose: the words lent, its kind and thread, and the number answered
 pub record Put : Type 0 where
@@ -30,11 +33,20 @@ pub record Put : Type 0 where
   pub thread : ℕ
   pub number : ℕ
 
--- choices one after another, the first lent the words ws and each next one the words that the one before left, up to the words ws′
+-- choices one after another, from the words ws up to the words ws′: the first is lent words that ws may come to, and each next one words
+-- that those left by the one before may come to
+abbrev pub LogBy : (List ℤ → List ℤ → Type 0) → List ℕ → List ℤ → List Put → List ℤ → Type 0
+LogBy R s ws [] ws′ = R ws ws′
+LogBy R s ws (p ∷ ps) ws′ =
+    R ws (p .words) × ((between : List ℤ) × Choose s (p .words) (p .kind) (p .thread) (p .number) between × LogBy R s between ps ws′)
+
+-- between them work and tokens may change, and nothing else
 abbrev pub Log : List ℕ → List ℤ → List Put → List ℤ → Type 0
-Log s ws [] ws′ = ws′ ≡ ws
-Log s ws (p ∷ ps) ws′ =
-    (p .words ≡ ws) × ((between : List ℤ) × Choose s ws (p .kind) (p .thread) (p .number) between × Log s between ps ws′)
+Log s ws ps ws′ = LogBy (Aside s) s ws ps ws′
+
+-- between them nothing changes
+abbrev pub Exactly : List ℕ → List ℤ → List Put → List ℤ → Type 0
+Exactly s ws ps ws′ = LogBy _≡_ s ws ps ws′
 
 -- what a host sees of a choice
 abbrev pub seen : Put → Reply
@@ -91,7 +103,7 @@ asChoice p = record { kind = p .kind; thread = p .thread }
 -- a schedule as choices put one by one: as many as it made, in its order, all of them given, and they leave the same words
 pub record Singly (s : List ℕ) (ws : List ℤ) (cs : List Choice) (made : ℕ) (ws′ : List ℤ) : Type 0 where
   pub puts : List Put
-  pub log : Log s ws puts ws′
+  pub log : Exactly s ws puts ws′
   pub are : map asChoice puts ≡ take made cs
   pub given : Each (λ p. isGiven (p .number) ≡ true) puts
 
@@ -101,17 +113,56 @@ OneByOne =
     (s : List ℕ) (ws : List ℤ) (cs : List Choice) (r made : ℕ) (ws′ : List ℤ) → Schedule s ws cs r made ws′ →
     Singly s ws cs made ws′
 
--- so every session is choices put one by one: those put to mezdaulk_choose, and as many of each schedule as it made
-abbrev pub choicesOf : Call → List Choice
-choicesOf (Call.choose kind thread r) = record { kind = kind; thread = thread } ∷ []
-choicesOf (Call.schedule cs r made) = take made cs
-choicesOf (Call.which r) = []
-choicesOf (Call.values vs r vs′) = []
+-- a choice and its answer
+pub record Turn : Type 0 where
+  pub choice : Choice
+  pub answer : Answer ℕ
+
+abbrev pub turnOf : Put → Turn
+turnOf p = record { choice = asChoice p; answer = answerIn (p .number) }
+
+-- a beat that was given the number r, as choices: its step, which made its rule, and then its promotions
+abbrev pub ofBeat : ℕ → ℕ → List Turn
+ofBeat thread r =
+    record { choice = record { kind = step; thread = thread }; answer = Answer.given (rule r) } ∷
+    replicate (promotions r) (record { choice = record { kind = promote; thread = thread }; answer = Answer.given No.promote })
+
+-- beats of these threads, each with its number
+abbrev pub ofBeats : List ℕ → List ℕ → List Turn
+ofBeats [] rs = []
+ofBeats (i ∷ is) [] = []
+ofBeats (i ∷ is) (r ∷ rs) = ofBeat i r ++ ofBeats is rs
+
+-- so every session is choices put one by one: those put to mezdaulk_choose; as many of each schedule as it made, all of them given; the
+-- step of each beat that was given and then its promotions; and as many beats of each run as it made steps, with as many promotions
+abbrev pub CountsAs : Call → List Turn → Type 0
+CountsAs (Call.choose kind thread r) ts = ts ≡ record { choice = record { kind = kind; thread = thread }; answer = answerIn r } ∷ []
+CountsAs (Call.schedule ds r made) ts =
+    (map (λ t. t .choice) ts ≡ take made ds) × Each (λ t. (rule : ℕ) × (t .answer ≡ Answer.given rule)) ts
+CountsAs (Call.beat thread n c r) ts = ts ≡ cond (isGiven r) (ofBeat thread r) []
+CountsAs (Call.run n c threads r steps made) ts =
+    (rs : List ℕ) × (length rs ≡ steps) × (sum (map promotions rs) ≡ made) × (ts ≡ ofBeats (take steps threads) rs)
+CountsAs (Call.which r) ts = ts ≡ []
+CountsAs (Call.values vs r vs′) ts = ts ≡ []
+
+abbrev pub CountAs : List Call → List Turn → Type 0
+CountAs [] ts = ts ≡ []
+CountAs (c ∷ cs) ts = (us vs : List Turn) × CountsAs c us × CountAs cs vs × (ts ≡ us ++ vs)
+
+-- a call that is no beat and no run
+abbrev pub Plain : Call → Type 0
+Plain (Call.choose kind thread r) = Unit {0}
+Plain (Call.schedule ds r made) = Unit {0}
+Plain (Call.beat thread n c r) = ⊥
+Plain (Call.run n c threads r steps made) = ⊥
+Plain (Call.which r) = Unit {0}
+Plain (Call.values vs r vs′) = Unit {0}
 
 pub record Logged (s : List ℕ) (ws : List ℤ) (cs : List Call) (ws′ : List ℤ) : Type 0 where
   pub puts : List Put
   pub log : Log s ws puts ws′
-  pub are : map asChoice puts ≡ concat (map choicesOf cs)
+  pub are : CountAs cs (map turnOf puts)
+  pub plain : Each Plain cs → Exactly s ws puts ws′
 
 abbrev pub EverySession : Type 0
 EverySession = (s : List ℕ) (ws : List ℤ) (cs : List Call) (ws′ : List ℤ) → Session s ws cs ws′ → Logged s ws cs ws′

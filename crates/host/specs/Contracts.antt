@@ -10,8 +10,9 @@ use Rattle.model.specs.Calls.{Choice}
 use Rattle.chains.specs.Depth.{depth}
 use Rattle.numbering.specs.Tidy.{tidy}
 use Rattle.inference.specs.Complete.{complete}
+use Rattle.tokens.specs.Beats as Beats
 use Rattle.host.specs.Exports as Exports
-use Rattle.host.specs.Exports.{done, asNumber, Gives, Writes, Completes, Finds, Tells}
+use Rattle.host.specs.Exports.{done, asNumber, beatNumber, Gives, Writes, Completes, Finds, Tells, Runs}
 
 abbrev pub Read : List ℕ → ℕ → Type 0
 Read s r = r ≡ done (outcome (Calls.read s))
@@ -40,6 +41,13 @@ Choose s ws kind thread r ws′ = Gives asNumber (Calls.choose s ws kind thread)
 -- how many choices were made, too
 abbrev pub Schedule : List ℕ → List ℤ → List Choice → ℕ → ℕ → List ℤ → Type 0
 Schedule s ws cs r made ws′ = Tells (Calls.schedule s ws cs) r made ws′
+
+abbrev pub Beat : List ℕ → List ℤ → ℕ → ℕ → ℕ → ℕ → List ℤ → Type 0
+Beat s ws thread n c r ws′ = Gives beatNumber (Beats.beat s ws thread n c) r ws′
+
+-- the two numbers of what was made, too
+abbrev pub Run : List ℕ → List ℤ → ℕ → ℕ → List ℕ → ℕ → List ℕ → List ℤ → Type 0
+Run s ws n c threads r made ws′ = Runs (Beats.run s ws n c threads) r made ws′
 
 abbrev pub Which : List ℕ → List ℤ → ℕ → Type 0
 Which s ws r = Finds s ws r

@@ -1,5 +1,5 @@
 -- What each exported function answers, as one number, and what it leaves in the memory that is lent to it.
-use Prim.Native.Nat.{ℕ}
+use Prim.Native.Nat.{ℕ, _+_, _*_}
 use mathlib.Core.Path.{_≡_}
 use mathlib.Core.Option.{Option, none, some}
 use mathlib.Core.List.{List, [], _∷_}
@@ -10,6 +10,7 @@ use Rattle.model.specs.Calls as Calls
 use Rattle.model.specs.Calls.{Called, Which}
 use Rattle.numbering.specs.Tidy.{Wrote}
 use Rattle.inference.specs.Complete.{Completed}
+use Rattle.tokens.specs.Beats.{Beat, Told}
 use Rattle.answers.specs.Coded.{given, codeOf}
 use Rattle.host.specs.Macros.{noThread, stillOpen}
 
@@ -22,6 +23,11 @@ done (Answer.refused r) = codeOf r
 unfoldable pub asNumber : Answer ℕ → ℕ
 asNumber (Answer.given n) = given n
 asNumber (Answer.refused r) = codeOf r
+
+-- the rule of a beat's step, and above it how many promotions it made
+unfoldable pub beatNumber : Answer Beat → ℕ
+beatNumber (Answer.given b) = given (b .rule + 256 * b .promotions)
+beatNumber (Answer.refused r) = codeOf r
 
 -- the thread that can step, or that there is none
 unfoldable pub stepperOf : Answer (Option ℕ) → ℕ
@@ -79,3 +85,9 @@ pub record Tells (c : Calls.Scheduled) (r made : ℕ) (ws′ : List ℤ) : Type 
   pub number : r ≡ done (c .answer)
   pub count : made ≡ c .made
   pub words : ws′ ≡ c .after
+
+-- a run: the number of its answer, the steps and the promotions that were made, in this order, and the pool's words afterwards
+pub record Runs (t : Told) (r : ℕ) (made : List ℕ) (ws′ : List ℤ) : Type 0 where
+  pub number : r ≡ done (t .answer)
+  pub counts : made ≡ t .steps ∷ t .promotions ∷ []
+  pub words : ws′ ≡ t .after

@@ -1,11 +1,11 @@
 -- What a host may conclude from the number that a call answered and from the memory that it lent, for all bytes and words: the
 -- number tells the definition's answer, which numbers there are, and what is written.
-use Prim.Native.Nat.{ℕ, _+_, _-_, _≤_, _<_}
+use Prim.Native.Nat.{ℕ, _+_, _*_, _-_, _≤_, _<_}
 use mathlib.Core.Path.{_≡_}
 use mathlib.Core.Logic.{_⊎_, _≢_}
 use mathlib.Core.Bool.{Bool, true, false, _&&_, _||_, cond}
 use mathlib.Core.Option.{Option, none, some}
-use mathlib.Core.List.{List}
+use mathlib.Core.List.{List, [], _∷_}
 use lib.Dec.{eqb, leb}
 use lib.IntN.{ℤ, pos}
 use lib.ListN.{length, getD, getElem?, set, take, drop, replicate}
@@ -18,8 +18,11 @@ use Rattle.model.specs.Calls.{Choice}
 use Rattle.chains.specs.Depth.{depth}
 use Rattle.numbering.specs.Tidy.{tidy}
 use Rattle.inference.specs.Complete.{scratchWords, outputBytes, cleared, complete}
-use Rattle.host.specs.Macros.{isGiven, value, number, place, block, function, poolWords, noThread, stillOpen}
-use Rattle.host.specs.Contracts.{Read, Check, Depth, Tidy, Complete, Start, Choose, Schedule, Which, Values}
+use Rattle.tokens.specs.Beats as Beats
+use Rattle.tokens.specs.Beats.{mostN, mostC}
+use Rattle.host.specs.Macros.{isGiven, value, number, place, block, function, rule, promotions, poolWords, step, noThread}
+use Rattle.host.specs.Macros.{stillOpen}
+use Rattle.host.specs.Contracts.{Read, Check, Depth, Tidy, Complete, Start, Choose, Schedule, Beat, Run, Which, Values}
 
 -- has a refusal of this number a function and a block: 4 to 11, 25 and 26
 unfoldable pub placed : ℕ → Bool
@@ -159,6 +162,59 @@ pub record ScheduleTells (s : List ℕ) (ws : List ℤ) (cs : List Choice) (r ma
   pub before : isGiven r ≡ false → number r < No.kind → (made ≡ 0) × (ws′ ≡ ws)
   pub stops : isGiven r ≡ false → No.kind ≤ number r → StopsAt s ws′ cs r made
 
+-- the value as the rule and the promotions of a beat
+unfoldable pub beatIn : ℕ → Answer Beats.Beat
+beatIn r = cond (isGiven r) (Answer.given (record { rule = rule r; promotions = promotions r })) (Answer.refused (refusalIn r))
+
+-- 1 to 3, 12, 13 and 27, with which a beat or a run is refused before any step; and then 15 to 19
+abbrev pub BeforeBeat : List ℕ → ℕ → Type 0
+BeforeBeat s r = OfPool s r ⊎ (number r ≡ No.pace)
+
+abbrev pub OfBeat : List ℕ → ℕ → Type 0
+OfBeat s r = BeforeBeat s r ⊎ Within No.thread No.stuck (number r)
+
+-- N and C of a beat
+abbrev pub Pace : ℕ → ℕ → Type 0
+Pace n c = Within 1 mostN n × Within 1 mostC c
+
+-- an N or C out of range gets 27; but what any choice, put to mezdaulk_choose in its place, is refused for the table or the words comes
+-- first
+pub record Unpaced (s : List ℕ) (ws : List ℤ) (r : ℕ) : Type 0 where
+  pub refused : isGiven r ≡ false
+  pub before : BeforeBeat s r
+  pub first : (kind thread q : ℕ) (w : List ℤ) → Choose s ws kind thread q w → isGiven q ≡ false → number q < No.kind → r ≡ q
+  pub pace : (kind thread q : ℕ) (w : List ℤ) → Choose s ws kind thread q w → (isGiven q ≡ true) ⊎ (No.kind ≤ number q) →
+      number r ≡ No.pace
+
+-- mezdaulk_beat: the value is the rule of its step, 1 to 9, and 256 times its promotions, of which there are 7 at most. It is given
+-- exactly where the step, put to mezdaulk_choose in its place, is, with the same rule, and refused with the same number; but an N or C
+-- out of range comes first
+pub record BeatTells (s : List ℕ) (ws : List ℤ) (thread n c r : ℕ) (ws′ : List ℤ) : Type 0 where
+  pub answers : beatIn r ≡ Beats.beat s ws thread n c .answer
+  pub given : isGiven r ≡ true → Within No.stmt No.prom (rule r) × (promotions r ≤ 7) × (value r ≡ rule r + 256 * promotions r)
+  pub refused : isGiven r ≡ false → OfBeat s r × (ws′ ≡ ws)
+  pub paced : Pace n c → (q : ℕ) (w : List ℤ) → Choose s ws step thread q w →
+      (isGiven q ≡ isGiven r) × (isGiven r ≡ true → value q ≡ rule r) × (isGiven r ≡ false → q ≡ r)
+  pub unpaced : ¬ Pace n c → Unpaced s ws r
+
+-- the beat behind those made: put to the words that they left, it is answered the same number
+pub record StopsAtBeat (s : List ℕ) (ws : List ℤ) (n c : ℕ) (threads : List ℕ) (r steps : ℕ) : Type 0 where
+  pub thread : ℕ
+  pub there : getElem? threads steps ≡ some thread
+  pub again : (q : ℕ) (ws′ : List ℤ) → Beat s ws thread n c q ws′ → q ≡ r
+
+-- mezdaulk_run: given, it made a step of each of its threads; refused with 1 to 3, 12, 13 or 27, it made nothing and wrote nothing but two
+-- 0s; refused with 15 to 19, it stopped at a beat. With an N or C out of range an empty run is refused, too. Each promotion makes a
+-- thread, of which there are 8 at most, and a step frees one at most
+pub record RunTells (s : List ℕ) (ws : List ℤ) (n c : ℕ) (threads : List ℕ) (r steps made : ℕ) (ws′ : List ℤ) : Type 0 where
+  pub answers : outcome (answerIn r) ≡ Beats.run s ws n c threads .answer
+  pub few : made < steps + 8
+  pub given : isGiven r ≡ true → (value r ≡ 0) × (steps ≡ length threads)
+  pub refused : isGiven r ≡ false → OfBeat s r
+  pub before : isGiven r ≡ false → BeforeBeat s r → (steps ≡ 0) × (made ≡ 0) × (ws′ ≡ ws)
+  pub stops : isGiven r ≡ false → Within No.thread No.stuck (number r) → StopsAtBeat s ws′ n c threads r steps
+  pub unpaced : ¬ Pace n c → Unpaced s ws r
+
 -- mezdaulk_which: a right answer; its value is a thread below 8 whose step makes a rule, or 8 exactly for none
 pub record WhichTells (s : List ℕ) (ws : List ℤ) (r : ℕ) : Type 0 where
   pub answers : Calls.Which s ws (threadIn (answerIn r))
@@ -187,6 +243,10 @@ pub record Laws : Type 0 where
       ChooseTells s ws kind thread r ws′
   pub schedule : (s : List ℕ) (ws : List ℤ) (cs : List Choice) (r made : ℕ) (ws′ : List ℤ) → Schedule s ws cs r made ws′ →
       ScheduleTells s ws cs r made ws′
+  pub beat : (s : List ℕ) (ws : List ℤ) (thread n c r : ℕ) (ws′ : List ℤ) → Beat s ws thread n c r ws′ →
+      BeatTells s ws thread n c r ws′
+  pub run : (s : List ℕ) (ws : List ℤ) (n c : ℕ) (threads : List ℕ) (r steps made : ℕ) (ws′ : List ℤ) →
+      Run s ws n c threads r (steps ∷ made ∷ []) ws′ → RunTells s ws n c threads r steps made ws′
   pub which : (s : List ℕ) (ws : List ℤ) (r : ℕ) → Which s ws r → WhichTells s ws r
   pub values : (s : List ℕ) (ws vs : List ℤ) (r : ℕ) (vs′ : List ℤ) → length vs ≡ 4 → Values s ws vs r vs′ →
       ValuesTells s ws vs r vs′

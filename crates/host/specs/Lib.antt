@@ -5,4 +5,5 @@ pub mod Laws
 pub mod Sessions
 pub mod Roomy
 pub mod Archive
+pub mod Tokens
 pub mod Children

@@ -24,6 +24,13 @@ block r = r / 256 % 256
 abbrev pub function : ℕ → ℕ
 function r = r / 65536 % 256
 
+-- what a beat is given: the rule of its step, and how many promotions it made
+abbrev pub rule : ℕ → ℕ
+rule r = r % 256
+
+abbrev pub promotions : ℕ → ℕ
+promotions r = r / 256 % 2 ^ 24
+
 -- a pool's length in words; the kinds of a choice
 abbrev pub poolWords : ℕ
 poolWords = Pool.poolWords

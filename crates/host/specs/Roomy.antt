@@ -15,13 +15,15 @@ use Rattle.host.specs.Contracts as Contracts
 use Rattle.host.specs.Contracts.{Start, Choose, Which}
 use Rattle.host.specs.Sessions.{Call, Session, Returned, CanStep}
 
--- a choice, or a list of choices, was not refused 18
+-- a choice, a list of choices, a beat or a run was not refused 18
 abbrev pub Unfilled : ℕ → Type 0
 Unfilled r = isGiven r ≡ false → number r ≢ No.frames
 
 abbrev pub NotFull : Call → Type 0
 NotFull (Call.choose kind thread r) = Unfilled r
 NotFull (Call.schedule cs r made) = Unfilled r
+NotFull (Call.beat thread n c r) = Unfilled r
+NotFull (Call.run n c threads r steps promotions) = Unfilled r
 NotFull (Call.which r) = Unit {0}
 NotFull (Call.values vs r vs′) = Unit {0}
 

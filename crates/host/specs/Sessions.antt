@@ -12,12 +12,14 @@ use Rattle.model.specs.Numbers.{Within}
 use Rattle.model.specs.Lists.{Each}
 use Rattle.model.specs.Calls.{Choice}
 use Rattle.host.specs.Macros.{isGiven, value, number, poolWords, step, noThread}
-use Rattle.host.specs.Contracts.{Check, Start, Choose, Schedule, Which, Values}
+use Rattle.host.specs.Contracts.{Check, Start, Choose, Schedule, Beat, Run, Which, Values}
 
 -- a call that a host made, with the number r that it answered
 pub data Call : Type 0 where
   choose : (kind thread r : ℕ) → Call
   schedule : (cs : List Choice) (r made : ℕ) → Call
+  beat : (thread n c r : ℕ) → Call
+  run : (n c : ℕ) (threads : List ℕ) (r steps promotions : ℕ) → Call
   which : (r : ℕ) → Call
   values : (vs : List ℤ) (r : ℕ) (vs′ : List ℤ) → Call
 
@@ -25,6 +27,8 @@ pub data Call : Type 0 where
 abbrev pub Made : List ℕ → List ℤ → Call → List ℤ → Type 0
 Made s ws (Call.choose kind thread r) ws′ = Choose s ws kind thread r ws′
 Made s ws (Call.schedule cs r made) ws′ = Schedule s ws cs r made ws′
+Made s ws (Call.beat thread n c r) ws′ = Beat s ws thread n c r ws′
+Made s ws (Call.run n c threads r steps promotions) ws′ = Run s ws n c threads r (steps ∷ promotions ∷ []) ws′
 Made s ws (Call.which r) ws′ = Which s ws r × (ws′ ≡ ws)
 Made s ws (Call.values vs r vs′) ws′ = Values s ws vs r vs′ × (ws′ ≡ ws)
 
@@ -34,13 +38,18 @@ Session s ws [] ws′ = ws′ ≡ ws
 Session s ws (c ∷ cs) ws′ = (between : List ℤ) × Made s ws c between × Session s between cs ws′
 
 -- a refused choice, or list of choices, answered one of 14 to 21 and not 19: so none of 1 to 3, 12 and 13, and never "stuck". The
--- two questions were given
+-- two questions were given. A refused beat, or run of beats, answered 27 or one of 15 to 18
 abbrev pub Unstuck : ℕ → Type 0
 Unstuck r = isGiven r ≡ false → Within No.kind No.threads (number r) × (number r ≢ No.stuck)
+
+abbrev pub Unjammed : ℕ → Type 0
+Unjammed r = isGiven r ≡ false → (number r ≡ No.pace) ⊎ Within No.thread No.frames (number r)
 
 abbrev pub Answered : Call → Type 0
 Answered (Call.choose kind thread r) = Unstuck r
 Answered (Call.schedule cs r made) = Unstuck r
+Answered (Call.beat thread n c r) = Unjammed r
+Answered (Call.run n c threads r steps promotions) = Unjammed r
 Answered (Call.which r) = isGiven r ≡ true
 Answered (Call.values vs r vs′) = isGiven r ≡ true
 

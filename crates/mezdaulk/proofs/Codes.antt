@@ -1,9 +1,10 @@
 -- The number of an answer, from the case that the code found.
-use Prim.Native.Nat.{ℕ}
+use Prim.Native.Nat.{ℕ, _<_}
 use mathlib.Core.Path.{_≡_, sym, ap, _∙_}
-use mathlib.Core.List.{List}
+use mathlib.Core.List.{List, [], _∷_}
 use lib.IntN.{ℤ}
 use Rattle.model.specs.Answers.{Answer}
+use Rattle.model.specs.Pool.{mostThreads}
 use Rattle.model.specs.Calls.{Called, Which}
 use Rattle.calls.specs.declared.Stepping.{Stepping}
 use Rattle.calls.specs.Calls.{called, steppingOf}
@@ -11,9 +12,16 @@ use Rattle.numbering.specs.Tidy.{Wrote}
 use Rattle.inference.specs.Complete.{Completed}
 use Rattle.answers.specs.declared.Written.{Written}
 use Rattle.answers.specs.Answers.{writtenOf}
+use Rattle.tokens.specs.Beats.{beat, Told}
+use Rattle.tokens.proofs.Few.{beat-few}
+use Rattle.beats.specs.declared.Beaten.{Beaten}
+use Rattle.beats.specs.declared.Beaten.the-variants.{Made}
+use Rattle.beats.specs.declared.Ran.{Ran}
+use Rattle.beats.specs.Beating.{beatenOf, calledOf, toldOf}
 use Rattle.tidy.specs.Writes as Tidy
 use Rattle.complete.specs.Writes as Complete
-use Rattle.host.specs.Exports.{asNumber, stepperOf, Gives, Writes, Completes, Finds}
+use Rattle.host.specs.Exports.{done, asNumber, stepperOf, Gives, Writes, Completes, Finds, Runs}
+use Rattle.mezdaulk.specs.Reports.{RunReports}
 
 -- the number of the case that was found is that of the answer
 pub told : {A B : Type 0} (code : A → ℕ) (of : B → A) {r q : B} {n : ℕ} → r ≡ q → n ≡ code (of q) → n ≡ code (of r)
@@ -26,6 +34,23 @@ gives code a e d =
     record {
       number = d ∙ ap (λ (c : Called _). code (c .answer)) e;
       words = ap (λ (c : Called _). c .after) e;
+    }
+
+-- a beat makes fewer promotions than there can be threads
+pub few-promotions : (s : List ℕ) (ws : List ℤ) (i n c : ℕ) (r : Beaten) {ws′ : List ℤ} {rule k : ℕ} → calledOf r ws′ ≡ beat s ws i n c
+    → r ≡ Made rule k → k < mostThreads
+few-promotions s ws i n c r e z =
+    beat-few s ws i n c _ (sym (ap (λ (x : Called _). x .answer) e) ∙ ap beatenOf z)
+
+-- a run, by its report
+pub runs : {t : Told} {n : ℕ} {made : List ℕ} (r : Ran) {ws : List ℤ} → RunReports r n made → toldOf r ws ≡ t → Runs t n made ws
+unfolding toldOf
+runs {t} {n} {made} r {ws} h e =
+    let x = h ws in
+    record {
+      number = x .number ∙ ap (λ (y : Told). done (y .answer)) e;
+      counts = x .counts ∙ ap (λ (y : Told). y .steps ∷ y .promotions ∷ []) e;
+      words = ap (λ (y : Told). y .after) e;
     }
 
 -- the answer that is left to the program

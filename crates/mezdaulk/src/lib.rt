@@ -1,6 +1,8 @@
 // The library for hosts: thin exports. include/mezdaulk.h says what each answer is.
 use answers::Answer;
 use answers::Written;
+use beats::Beaten;
+use beats::Ran;
 use calls::Chosen;
 use calls::State;
 use calls::Stepping;
@@ -19,7 +21,7 @@ ghost use Rattle.schedule.specs.Choices.{choicesOf};
 ghost use Rattle.host.specs.Exports as Exports;
 ghost use Rattle.host.specs.Exports.{Values};
 ghost use Rattle.host.specs.Contracts as Contracts;
-ghost use Rattle.mezdaulk.specs.Reports.{Reports};
+ghost use Rattle.mezdaulk.specs.Reports.{Reports, RunReports};
 
 // The value of `mezdaulk_which` where no thread can step, and of `mezdaulk_values` while main's values are open.
 const NO_THREAD: u32 = 8;
@@ -173,4 +175,38 @@ pub extern "C" fn mezdaulk_schedule(
         (now (pool .exit)) ⌝ }
 {
     report(schedule::schedule(table, pool, choices), made)
+}
+
+#[no_mangle]
+pub extern "C" fn mezdaulk_beat(table: &[u8], pool: &mut [i32], thread: u32, n: u32, c: u32) -> u64
+    ensures { λ r. ⌜ Contracts.Beat (now (table .entry)) (now (pool .entry)) thread n c r (now (pool .exit)) ⌝ }
+{
+    match beats::beat(table, pool, thread, n, c) {
+        Beaten::Made(rule, promotions) => answers::value((rule as u32) + 256 * promotions),
+        Beaten::Refused(why) => answers::code(why),
+    }
+}
+
+// The report of a run, with the steps and the promotions made written.
+fn report_run(answer: Ran, made: &mut [u64; 2]) -> u64
+    ensures { λ r. ⌜ RunReports answer r (now (made .exit)) ⌝ }
+{
+    let a = answer.answer;
+    *made = [answer.steps, answer.promotions];
+    done(a)
+}
+
+#[no_mangle]
+pub extern "C" fn mezdaulk_run(
+    table: &[u8],
+    pool: &mut [i32],
+    n: u32,
+    c: u32,
+    threads: &[u32],
+    made: &mut [u64; 2],
+) -> u64
+    ensures { λ r. ⌜ Contracts.Run (now (table .entry)) (now (pool .entry)) n c (now (threads .entry)) r (now (made .exit))
+        (now (pool .exit)) ⌝ }
+{
+    report_run(beats::run(table, pool, n, c, threads), made)
 }

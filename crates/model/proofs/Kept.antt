@@ -327,8 +327,8 @@ module _ {P : Program} (L : Limits P) where
 
   -- a thread with the frame j over K
   top-kept : (c m n rule : ℕ) (t : Thread) (k : Frame) (K : List Frame) (ts : List Thread) (o : Option Frame) → IsPurse (t .purse)
-      → suc (length K) ≤ mostFrames → Each (IsOlder P) K → Ordered (k ∷ K) → n ≤ k .promoted → Each (IsThread P) ts → trees (n + children K + c) ts ≡ true
-      → suc (length ts) ≤ m → OnSome (Goes P n) o → Keeps P (suc c) m (Rules.onTop rule t K ts o)
+      → suc (length K) ≤ mostFrames → Each (IsOlder P) K → Ordered (k ∷ K) → n ≤ k .promoted → Each (IsThread P) ts
+      → trees (n + children K + c) ts ≡ true → suc (length ts) ≤ m → OnSome (Goes P n) o → Keeps P (suc c) m (Rules.onTop rule t K ts o)
   unfolding Rules.onTop trees children
   top-kept c m n rule t k K ts none e few older order l each tree fits g = tt
   top-kept c m n rule t k K ts (some j) e few older order l each tree fits g =
@@ -413,7 +413,8 @@ module _ {P : Program} (L : Limits P) where
             (cond b (Result.made No.call (restacked t (m ∷ l ∷ t .older) ∷ ts)) (Result.refused No.frames))
         go false q = tt
         go true q = push-kept l m ts d (ltb-true (length (frames t)) mostFrames q) each tree
-    apply-kept ts (Act.pop v̄) d each tree = popping-kept c t (t .newest) (t .older) ts v̄ (h .purse) (h .few) (thread-upright P h) d each tree
+    apply-kept ts (Act.pop v̄) d each tree =
+        popping-kept c t (t .newest) (t .older) ts v̄ (h .purse) (h .few) (thread-upright P h) d each tree
     apply-kept ts (Act.join l b) d each tree = joins-kept l b ts (d .0) (d .1) each tree
 
   pub step-kept : (c : ℕ) (t : Thread) (ts : List Thread) → Each (IsThread P) (t ∷ ts) → trees (suc c) (t ∷ ts) ≡ true

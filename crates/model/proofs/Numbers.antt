@@ -418,18 +418,18 @@ judge-can P = first-in (Faults P) (Check.tests P) (of-main (getElem? P 0), funct
     of-main none = tt
     of-main (some F) = Faults.main
 
--- what a newest frame can do: refuse with 19, go on by one of the rules 1 to 9, return at most four values, call, or join
-abbrev Acts : Act → Type 0
+-- what a newest frame can do: refuse with 19, go on by one of the rules 1 to 8, return at most four values, call, or join
+abbrev pub Acts : Act → Type 0
 Acts (Act.refuse n) = n ≡ No.stuck
-Acts (Act.stay rule k) = Within No.stmt No.prom rule
+Acts (Act.stay rule k) = Within No.stmt No.unpr rule
 Acts (Act.push k l) = Unit {0}
 Acts (Act.pop v̄) = length v̄ ≤ 4
 Acts (Act.join k c) = Unit {0}
 
-by-acts : (rule : ℕ) (o : Option Frame) → (leb No.stmt rule && leb rule No.prom) ≡ true → Acts (by rule o)
+by-acts : (rule : ℕ) (o : Option Frame) → (leb No.stmt rule && leb rule No.unpr) ≡ true → Acts (by rule o)
 unfolding by
 by-acts rule none h = refl
-by-acts rule (some k) h = tested No.stmt No.prom rule h
+by-acts rule (some k) h = tested No.stmt No.unpr rule h
 
 acts-acts : (o : Option Act) → OnSome Acts o → Acts (acts o)
 unfolding acts
@@ -476,7 +476,7 @@ module _ {P : Program} (L : Limits P) where
       go none q e = none-some e
       go (some F) q e = each-at InBlock (F .blocks) b (each-at InFunction P (k .function) (L .functions) q .blocks) e
 
-  act-acts : (k : Frame) → Acts (act P k)
+  pub act-acts : (k : Frame) → Acts (act P k)
   unfolding act Rules.coming Rules.stmt
   act-acts k =
       acts-acts _ (on-bind Acts (blockOf P k (k .block)) _ λ B e. coming B (block-limits k (k .block) e) (getElem? (B .code) (k .done)))
@@ -485,103 +485,110 @@ module _ {P : Program} (L : Limits P) where
       coming B i none = transfer-acts P k (B .transfer) (i .transfer)
       coming B i (some x) = by-acts No.stmt _ refl
 
--- a choice that is made has a rule from lo to hi, and a refused one a number from 14 to 21
-abbrev Results : ℕ → ℕ → Result → Type 0
-Results lo hi (Result.made rule ts) = Within lo hi rule
-Results lo hi (Result.refused n) = Within No.kind No.threads n
+-- a choice of a thread that is made has a rule from lo to hi, and a refused one a number from 15 to most
+abbrev Results : ℕ → ℕ → ℕ → Result → Type 0
+Results lo hi most (Result.made rule ts) = Within lo hi rule
+Results lo hi most (Result.refused n) = Within No.thread most n
 
-refuses : (n : ℕ) → (leb No.kind n && leb n No.threads) ≡ true → Within No.kind No.threads n
-refuses n e = tested No.kind No.threads n e
+-- a step: rules 1 to 9, and 15 to 19; a promotion: rule 10, and 15 to 21
+abbrev pub StepOf : Result → Type 0
+StepOf x = Results No.stmt No.prom No.stuck x
+
+abbrev PromotionOf : Result → Type 0
+PromotionOf x = Results No.promote No.promote No.threads x
+
+refuses : (n : ℕ) → (leb No.thread n && leb n No.stuck) ≡ true → Within No.thread No.stuck n
+refuses n e = tested No.thread No.stuck n e
 
 top-results : (rule : ℕ) (t : Thread) (K : List Frame) (ts : List Thread) (o : Option Frame) →
-    (leb No.stmt rule && leb rule No.prom) ≡ true → Results No.stmt No.prom (Rules.onTop rule t K ts o)
+    (leb No.stmt rule && leb rule No.prom) ≡ true → StepOf (Rules.onTop rule t K ts o)
 unfolding Rules.onTop
 top-results rule t K ts none h = refuses No.stuck refl
 top-results rule t K ts (some k) h = tested No.stmt No.prom rule h
 
 pop-results : (P : Program) (t : Thread) (K : List Frame) (ts : List Thread) (v̄ : List ℤ) →
-    Results No.stmt No.prom (Rules.popping P t K ts v̄)
+    StepOf (Rules.popping P t K ts v̄)
 unfolding Rules.popping
 pop-results P t [] ts v̄ = refuses No.ended refl
 pop-results P t (k ∷ K) ts v̄ = top-results No.return t K ts (enter P k (k .block) v̄) refl
 
-apply-results : (P : Program) (t : Thread) (ts : List Thread) (a : Act) → Acts a → Results No.stmt No.prom (Rules.apply P t ts a)
+apply-results : (P : Program) (t : Thread) (ts : List Thread) (a : Act) → Acts a → StepOf (Rules.apply P t ts a)
 unfolding Rules.apply Rules.joins Rules.joining
 apply-results P t ts (Act.refuse n) h = rw h (refuses No.stuck refl)
-apply-results P t ts (Act.stay rule k) h = h
+apply-results P t ts (Act.stay rule k) h = (h .0, omega (arith, h .1))
 apply-results P t ts (Act.push k l) h = go (ltb (length (frames t)) mostFrames)
   where
     go : (b : Bool) →
-        Results No.stmt No.prom (cond b (Result.made No.call (restacked t (l ∷ k ∷ t .older) ∷ ts)) (Result.refused No.frames))
+        StepOf (cond b (Result.made No.call (restacked t (l ∷ k ∷ t .older) ∷ ts)) (Result.refused No.frames))
     go true = tested No.stmt No.prom No.call refl
     go false = refuses No.frames refl
 apply-results P t ts (Act.pop v̄) h = pop-results P t (t .older) ts v̄
 apply-results P t [] (Act.join k c) h = refuses No.waits refl
 apply-results P t (u ∷ ts) (Act.join k c) h = go (Rules.ended P u)
   where
-    go : (o : Option (List ℤ)) → Results No.stmt No.prom (Rules.joining P t k c ts o)
+    go : (o : Option (List ℤ)) → StepOf (Rules.joining P t k c ts o)
     go none = refuses No.waits refl
     go (some v̄) = top-results No.prom t (t .older) ts (enter P k c v̄) refl
 
-promote-results : (P : Program) (room : Bool) (t : Thread) (ts : List Thread) → Results No.promote No.promote (Rules.promote P room t ts)
+promote-results : (P : Program) (room : Bool) (t : Thread) (ts : List Thread) → PromotionOf (Rules.promote P room t ts)
 unfolding Rules.promote Rules.promoting Rules.spawned
 promote-results P room t ts = go room (Rules.oldest (frames t))
   where
-    made : (u : Thread) (o : Option Frame) → Results No.promote No.promote (Rules.spawned u ts o)
-    made u none = refuses No.stuck refl
+    made : (u : Thread) (o : Option Frame) → PromotionOf (Rules.spawned u ts o)
+    made u none = tested No.thread No.threads No.stuck refl
     made u (some k) = tested No.promote No.promote No.promote refl
 
-    go : (b : Bool) (o : Option Rules.Promotion) → Results No.promote No.promote (Rules.promoting P b t ts o)
-    go b none = refuses No.promoted refl
-    go false (some p) = refuses No.threads refl
+    go : (b : Bool) (o : Option Rules.Promotion) → PromotionOf (Rules.promoting P b t ts o)
+    go b none = tested No.thread No.threads No.promoted refl
+    go false (some p) = tested No.thread No.threads No.threads refl
     go true (some p) = made (restacked t (p .frames)) (Rules.child P (p .holder) (p .call))
 
 module _ (f : Thread → List Thread → Result) where
-  thread-results : (lo hi : ℕ) → ((t : Thread) (ts : List Thread) → Results lo hi (f t ts)) → (p : Pool) (i : ℕ) →
-      Results lo hi (Rules.onThread f p i)
+  thread-results : (lo hi most : ℕ) → No.thread ≤ most → ((t : Thread) (ts : List Thread) → Results lo hi most (f t ts)) →
+      (p : Pool) (i : ℕ) → Results lo hi most (Rules.onThread f p i)
   unfolding Rules.onThread Rules.behind
-  thread-results lo hi h [] i = refuses No.thread refl
-  thread-results lo hi h (t ∷ ts) zero = h t ts
-  thread-results lo hi h (t ∷ ts) (suc i) = go (Rules.onThread f ts i) (thread-results lo hi h ts i)
+  thread-results lo hi most l h [] i = (omega arith, l)
+  thread-results lo hi most l h (t ∷ ts) zero = h t ts
+  thread-results lo hi most l h (t ∷ ts) (suc i) = go (Rules.onThread f ts i) (thread-results lo hi most l h ts i)
     where
-      go : (x : Result) → Results lo hi x → Results lo hi (Rules.behind t x)
+      go : (x : Result) → Results lo hi most x → Results lo hi most (Rules.behind t x)
       go (Result.made rule ts) h = h
       go (Result.refused n) h = h
 
   -- a choice that is not answered 15 has its thread in the pool
-  thread-there : (p : Pool) (i : ℕ) → Rules.onThread f p i ≢ Result.refused No.thread → i < length p
+  pub thread-there : (p : Pool) (i : ℕ) → Rules.onThread f p i ≢ Result.refused No.thread → i < length p
   unfolding Rules.onThread Rules.behind
   thread-there [] i h = absurd (h refl)
   thread-there (t ∷ ts) zero h = omega arith
   thread-there (t ∷ ts) (suc i) h = omega (arith, thread-there ts i (λ e. h (ap (Rules.behind t) e)))
 
 -- what a choice can make or be refused
-abbrev ChoiceOf : ℕ → Result → Type 0
+abbrev pub ChoiceOf : ℕ → Result → Type 0
 ChoiceOf kind (Result.made rule p) = RuleOf kind rule
 ChoiceOf kind (Result.refused n) = Within No.kind No.threads n
 
-choice-of : (P : Program) → Limits P → (p : Pool) (kind i : ℕ) → ChoiceOf kind (choice P p kind i)
+pub step-of : (P : Program) → Limits P → (p : Pool) (i : ℕ) → StepOf (choice P p 0 i)
 unfolding choice Rules.step
-choice-of P L p zero i = go (Rules.onThread f p i) (thread-results f No.stmt No.prom each p i)
+step-of P L p i =
+    thread-results (Rules.step P) No.stmt No.prom No.stuck (omega arith) (λ t ts. apply-results P t ts _ (act-acts L (t .newest))) p i
+
+pub choice-of : (P : Program) → Limits P → (p : Pool) (kind i : ℕ) → ChoiceOf kind (choice P p kind i)
+unfolding choice
+choice-of P L p zero i = go (choice P p 0 i) (step-of P L p i)
   where
-    f : Thread → List Thread → Result
-    f = Rules.step P
-
-    each : (t : Thread) (ts : List Thread) → Results No.stmt No.prom (Rules.step P t ts)
-    each t ts = apply-results P t ts _ (act-acts L (t .newest))
-
-    go : (x : Result) → Results No.stmt No.prom x → ChoiceOf 0 x
+    go : (x : Result) → StepOf x → ChoiceOf 0 x
     go (Result.made rule q) h = inl (refl, h)
-    go (Result.refused n) h = h
-choice-of P L p (suc zero) i = go (Rules.onThread f p i) (thread-results f No.promote No.promote (promote-results P _) p i)
+    go (Result.refused n) h = (omega arith, omega arith)
+choice-of P L p (suc zero) i =
+    go (Rules.onThread f p i) (thread-results f No.promote No.promote No.threads (omega arith) (promote-results P _) p i)
   where
     f : Thread → List Thread → Result
     f = Rules.promote P (ltb (length p) mostThreads)
 
-    go : (x : Result) → Results No.promote No.promote x → ChoiceOf 1 x
+    go : (x : Result) → PromotionOf x → ChoiceOf 1 x
     go (Result.made rule q) h = inr (refl, omega arith)
-    go (Result.refused n) h = h
-choice-of P L p (suc (suc kind)) i = refuses No.kind refl
+    go (Result.refused n) h = (omega arith, omega arith)
+choice-of P L p (suc (suc kind)) i = tested No.kind No.threads No.kind refl
 
 -- the refusals of the other calls: the check's; the start's, the table's and 12; those of a call on a pool, 13 too; and 14 to 21
 pub data OfCheck (s : List ℕ) : Refusal → Type 0 where

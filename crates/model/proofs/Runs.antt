@@ -37,10 +37,10 @@ unfolding Answers.numberOf Answers.with Lists.all Lists.equal Lists.unsnoc Lists
     Check.at Check.firstFault Check.judge Pool.begin Pool.wordsOfFrame Pool.threadHead Pool.wordsOfThread Pool.wordsOf Pool.runs Pool.wordAt
     Pool.countAt Pool.frameOf Pool.threadOf Pool.poolOf Pool.sameWords Pool.functionOf Pool.blockIn Pool.blockOf Pool.blank Pool.inBlock
     Pool.inFunction Pool.isFrame Pool.isOlder Pool.settled Pool.ordered Pool.isPurse Pool.isThread Pool.children Pool.trees Pool.isPool
-    Pool.arePool Pool.started Frames.when Frames.look Frames.lookAll Frames.evalAtom Frames.eval Frames.bind Frames.bindAll Frames.goTo Frames.deque
-    Frames.entering Frames.enter Frames.callee Rules.by Rules.acts Rules.stmt Rules.goto Rules.branch Rules.if Rules.call Rules.return
-    Rules.spork Rules.closing Rules.spoin Rules.transfer Rules.coming Rules.act Rules.returned Rules.ended Rules.onTop Rules.popping
-    Rules.joining Rules.joins Rules.apply Rules.step Rules.promoteIn Rules.orElse Rules.oldest Rules.child Rules.spawned Rules.promoting
+    Pool.arePool Pool.started Frames.when Frames.look Frames.lookAll Frames.evalAtom Frames.eval Frames.bind Frames.bindAll Frames.goTo
+    Frames.deque Frames.entering Frames.enter Frames.callee Rules.by Rules.acts Rules.stmt Rules.goto Rules.branch Rules.if Rules.call
+    Rules.return Rules.spork Rules.closing Rules.spoin Rules.transfer Rules.coming Rules.act Rules.returned Rules.ended Rules.onTop
+    Rules.popping Rules.joining Rules.joins Rules.apply Rules.step Rules.promoteIn Rules.orElse Rules.oldest Rules.child Rules.spawned Rules.promoting
     Rules.promote Rules.behind Rules.onThread Rules.choice Rules.mainValues Calls.check Calls.measured Calls.valid Calls.lent
     Calls.lentWords Calls.starting Calls.start Calls.made Calls.chosen Calls.choose Calls.goOn Calls.run Calls.stopped Calls.reported
     Calls.scheduled Calls.schedule Calls.values
@@ -63,7 +63,7 @@ play s ws (c ∷ cs) =
 abbrev pub blank : List ℤ
 blank = replicate poolWords (pos 0)
 
-abbrev begun : List ℕ → List ℤ
+abbrev pub begun : List ℕ → List ℤ
 begun s = start s blank .after
 
 -- a row of the table: a table checked; choices put from the start on, with their answers and main's values; a choice put with
@@ -194,7 +194,7 @@ scoped =
     0x00 ∷ 0x02 ∷ 0x00 ∷ 0x00 ∷ 0x00 ∷ 0x00 ∷ 0x03 ∷ 0x00 ∷ 0x01 ∷ 0x00 ∷ 0x00 ∷ 0x00 ∷ 0x02 ∷ 0x00 ∷ 0x00 ∷ 0x03 ∷ 0x01 ∷ 0x01 ∷ []
 
 -- main opens four calls and calls function 1, which opens four more
-abbrev full : List ℕ
+abbrev pub full : List ℕ
 full =
     0x00 ∷ 0x00 ∷ 0x00 ∷ 0xD8 ∷ 0x01 ∷ 0x03 ∷ 0x00 ∷ 0x00 ∷ 0x0A ∷ 0x01 ∷ 0x02 ∷ 0x00 ∷ 0x00 ∷ 0x00 ∷ 0x00 ∷ 0x00 ∷ 0x00 ∷ 0x04 ∷ 0x01
     ∷ 0x00 ∷
@@ -230,7 +230,7 @@ negated =
     0x00 ∷ 0x05 ∷ 0x03 ∷ 0x01 ∷ 0x00 ∷ []
 
 -- a spawn call with an argument that is never bound
-abbrev unfed : List ℕ
+abbrev pub unfed : List ℕ
 unfed =
     0x00 ∷ 0x00 ∷ 0x00 ∷ 0x30 ∷ 0x01 ∷ 0x02 ∷ 0x00 ∷ 0x00 ∷ 0x03 ∷ 0x01 ∷ 0x01 ∷ 0x01 ∷ 0x05 ∷ 0x00 ∷ 0x00 ∷ 0x00 ∷ 0x00 ∷ 0x00 ∷ 0x04
     ∷ 0x01 ∷

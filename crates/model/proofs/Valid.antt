@@ -15,7 +15,7 @@ use Rattle.model.specs.Sets.{has}
 use Rattle.model.specs.Syntax.{Block, Function, Program}
 use Rattle.model.specs.Pool.{Frame, Purse, Thread, Pool, temporaries, mostCalls, mostFrames, mostThreads, mostWork, mostTokens}
 use Rattle.model.specs.Pool.{frames, restacked, functionOf, blank, inBlock, inFunction, isFrame, isOlder, settled, ordered}
-use Rattle.model.specs.Pool.{isPurse, isThread, isPool}
+use Rattle.model.specs.Pool.{isPurse, isThread, trees, isPool}
 use Rattle.model.specs.Valid.{Blank, Stands, IsFrame, IsOlder, Settled, Ordered, IsPurse, IsThread, IsPool}
 use Rattle.model.proofs.Facts.{true-false, and-left, and-right, both-and, left-or, right-or, or-right, each-map, all-each, each-all}
 use Rattle.model.proofs.Facts.{ltb-true, leb-true, eqb-true, lt-ltb, le-leb, eq-eqb, ne-eqb}
@@ -215,6 +215,15 @@ module _ (P : Program) where
       let a : leb (length p) mostThreads ≡ true = le-leb (length p) mostThreads (h .few) in
       let b : all (isThread P) p ≡ true = each-all (isThread P) p (each-map facts-thread p (h .each)) in
       rw (a, b) (h .tree)
+
+  -- a pool has a thread
+  pub some-thread : (p : Pool) → isPool P p ≡ true → 0 < length p
+  unfolding trees
+  some-thread p v = go p (pool-facts p v .tree)
+    where
+      go : (q : Pool) → trees 1 q ≡ true → 0 < length q
+      go [] e = true-false false e refl
+      go (t ∷ q) e = omega arith
 
 -- the frames of a thread, newest first, as facts
 abbrev pub Upright : Program → List Frame → Type 0

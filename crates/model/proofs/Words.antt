@@ -17,9 +17,9 @@ use Rattle.model.specs.Values.{same, number}
 use Rattle.model.specs.Sets.{has, below}
 use Rattle.model.specs.Syntax.{Function, Program}
 use Rattle.model.specs.Pool.{Frame, Thread, Pool, temporaries, mostCalls, mostFrames, mostThreads, frameWords, threadWords, poolWords}
-use Rattle.model.specs.Pool.{frameCountAt, workAt, tokensAt, framesAt, threadCountAt, threadsAt, frames, born, restacked, begin, wordsOfFrame}
-use Rattle.model.specs.Pool.{threadHead, wordsOfThread, wordsOf, runs, wordAt, countAt, frameOf, threadOf, poolOf, sameWords}
-use Rattle.model.specs.Pool.{threadStart, functionOf, children, trees, isPool, arePool, started}
+use Rattle.model.specs.Pool.{frameCountAt, workAt, tokensAt, framesAt, threadCountAt, threadsAt, frames, born, restacked, begin}
+use Rattle.model.specs.Pool.{wordsOfFrame, threadHead, wordsOfThread, wordsOf, runs, wordAt, countAt, frameOf, threadOf, poolOf}
+use Rattle.model.specs.Pool.{sameWords, threadStart, functionOf, children, trees, isPool, arePool, started}
 use Rattle.model.specs.Answers.{Refusal, Answer, with}
 use Rattle.model.specs.Limits.{InFunction, Limits}
 use Rattle.model.specs.Calls.{read, Lent, measured, valid, lent}

@@ -89,6 +89,10 @@ unreached = 25
 abbrev pub impossible : ℕ
 impossible = 26
 
+-- N or C of a beat or a run (27)
+abbrev pub pace : ℕ
+pace = 27
+
 -- the rules (1 to 10), in the order of document 01
 abbrev pub stmt : ℕ
 stmt = 1

@@ -13,6 +13,7 @@ pub mod Held
 pub mod SimulationStates
 pub mod SimulationActs
 pub mod SimulationChoices
+pub mod SimulationBeats
 pub mod SimulationWords
 pub mod Accepted
 pub mod Theorem

@@ -34,7 +34,7 @@ abbrev pub KeptResult : Numbering → Result → Type 0
 KeptResult R (Result.made rule ts) = KeptPool R ts
 KeptResult R (Result.refused n) = Unit {0}
 
--- a run of choices, under new numbers
+-- a schedule, under new numbers
 unfoldable pub renamedRan : Numbering → Ran → Ran
 renamedRan R r = record { made = r .made; refusal = r .refusal; pool = renamedPool R (r .pool) }
 
@@ -247,7 +247,7 @@ module _ {R : Numbering} {P Q : Program} (c : Copies R P Q) where
   values-follow [] h = refl
   values-follow (t ∷ ts) h = ended-renamed t (h .0)
 
-  -- a run of choices
+  -- a schedule
   pub run-follows : (p : Pool) (cs : List Choice) → KeptPool R p →
       Follows (renamedRan R) (KeptRan R) (run P p cs) (run Q (renamedPool R p) cs)
   unfolding run goOn renamedRan renamedResult

@@ -2,29 +2,38 @@
 -- every call keeps them so, and every call answers the same for both.
 use Prim.Native.Nat.{ℕ}
 use mathlib.Core.Path.{_≡_, refl, sym, _∙_, ap, ap₂}
-use mathlib.Core.Bool.{true}
+use mathlib.Core.Bool.{Bool, true, false, cond}
 use mathlib.Core.Option.{Option, none, some}
-use mathlib.Core.List.{List, [], _∷_, _++_, map-append}
+use mathlib.Core.List.{List, [], _∷_, _++_, map, map-append}
 use lib.IntN.{ℤ}
-use lib.ListN.{length}
+use lib.ListN.{length, replicate, length-map}
+use Rattle.model.specs.Numbers as No
+use Rattle.model.specs.Lists.{Each}
 use Rattle.model.specs.Answers.{Answer, with}
 use Rattle.model.specs.Syntax.{Program}
 use Rattle.model.specs.Pool.{Pool, poolWords, wordsOf, begin, isPool, started}
 use Rattle.model.specs.Rules.{Result, choice}
 use Rattle.model.specs.Calls as Calls
-use Rattle.model.specs.Calls.{Choice, Lent, lent, read, made, run, reported, scheduled, Which}
-use Rattle.model.proofs.Facts.{refused-given}
+use Rattle.model.specs.Calls.{Called, Choice, Lent, lent, read, made, run, reported, scheduled, Which}
+use Rattle.model.proofs.Facts.{true-false, refused-given}
 use Rattle.model.proofs.Guarantees.{read-limits}
 use Rattle.model.proofs.Words.{lent-given, lent-words, started-pool}
 use Rattle.model.proofs.Kept.{choice-kept, choose-lent}
 use Rattle.model.proofs.Schedules.{run-kept}
-use Rattle.safety.specs.NeverJams.{Call, Put, left, finally, whileGiven, ofSchedule, ofCall, choices}
+use Rattle.tokens.specs.Beats as Beats
+use Rattle.tokens.specs.Beats.{Beat, Beaten, beaten, runs, isPace, told}
+use Rattle.tokens.proofs.Kept.{beaten-valid, runs-valid}
+use Rattle.tokens.proofs.Words.{pace-facts, unpaced, beat-lent, beat-refused, run-lent, run-refused}
+use Rattle.safety.specs.NeverJams.{Call, Put, left, finally, whileGiven, ofSchedule, ofBeat, ofRun, ofCall, choices}
+use Rattle.safety.proofs.Beats.{Promotes, promotionsOf, BeatAs, beat-as}
 use Rattle.safety.proofs.Theorem.{starts}
 use Rattle.numbering.specs.Renumbers.{Numbering, Renumbers, renamedFrame, renamedThread, renamedPool}
 use Rattle.numbering.specs.Means.{Alike, answers, Same}
 use Rattle.numbering.proofs.SimulationStates.{KeptPool, Follows}
 use Rattle.numbering.proofs.SimulationChoices.{renamedResult, KeptResult, renamedRan, KeptRan, Chooses, choice-follows}
 use Rattle.numbering.proofs.SimulationChoices.{values-follow, run-follows}
+use Rattle.numbering.proofs.SimulationBeats.{renamedSpent, renamedBeaten, KeptBeaten, renamedBeats, KeptBeats}
+use Rattle.numbering.proofs.SimulationBeats.{beaten-follows, runs-follow}
 
 -- the pool at the start stays as it is, and has kept things alone
 started-renamed : (R : Numbering) (P Q : Program) → Renumbers R P Q → renamedPool R started ≡ started
@@ -43,6 +52,35 @@ unfolding Which
 which-same s t ws ws′ e m n (Answer.given (some i)) w = (w .0, sym (e 0 i) ∙ w .1)
 which-same s t ws ws′ e m n (Answer.given none) w = ((_, n), λ i x. w .1 i (x .0, e 0 i ∙ x .1))
 which-same s t ws ws′ e m n (Answer.refused r) w = refused-given (sym w ∙ m)
+
+-- a beat's choices are answered as the beat tells: its rule and as many promotions as it made, or its refusal
+unfoldable choicesTold : Answer Beat → List (Answer ℕ)
+choicesTold (Answer.given b) = Answer.given (b .rule) ∷ replicate (b .promotions) (Answer.given No.promote)
+choicesTold (Answer.refused r) = Answer.refused r ∷ []
+
+promotions-told : (s : List ℕ) (i : ℕ) (ps : List Pool) → Each (Promotes s i) ps →
+    answers s (promotionsOf i (map wordsOf ps)) ≡ replicate (length ps) (Answer.given No.promote)
+promotions-told s i [] h = refl
+promotions-told s i (p ∷ ps) h = ap₂ {C = List (Answer ℕ)} _∷_ (h .0) (promotions-told s i ps (h .1))
+
+unpaced-puts : (s : List ℕ) (ws : List ℤ) (i N C : ℕ) → isPace N C ≡ false → ofBeat s ws i N C ≡ []
+unfolding ofBeat
+unpaced-puts s ws i N C q = rw q
+
+answers-told : (s : List ℕ) (ws : List ℤ) (i N C : ℕ) →
+    answers s (ofBeat s ws i N C) ≡ cond (isPace N C) (choicesTold (Beats.beat s ws i N C .answer)) []
+unfolding choicesTold
+answers-told s ws i N C = go (isPace N C) refl
+  where
+    paced : (ps : List Put) (d : Called Beat) → isPace N C ≡ true → BeatAs s ws i N C ps d → answers s ps ≡ choicesTold (d .answer)
+    paced ps d q (BeatAs.unpaced e) = true-false (isPace N C) q e
+    paced ps d q (BeatAs.refused e) = rw e
+    paced ps d q (BeatAs.made {ps = qs} e h) = rw (e, promotions-told s i qs (h .made))
+
+    go : (b : Bool) → isPace N C ≡ b →
+        answers s (ofBeat s ws i N C) ≡ cond b (choicesTold (Beats.beat s ws i N C .answer)) []
+    go true q = paced _ _ q (beat-as s ws i N C)
+    go false q = rw (unpaced-puts s ws i N C q)
 
 -- words that hold a pool of s, with kept things alone, and words that hold it of t under the new numbers
 pub record Hold (s t : List ℕ) (P Q : Program) (R : Numbering) (ws ws′ : List ℤ) : Type 0 where
@@ -124,9 +162,94 @@ module _ (s t : List ℕ) (P Q : Program) (R : Numbering) (r : read s ≡ Answer
         rw (g .first, g .second, f .same)
         (hold-words (run P (g .pool) cs .pool) (f .kept) (run-kept P (read-limits s P r) (g .pool) cs valid) (rw (f .same) at v′))
 
+    -- a beat
+    told-same : (x : Beaten) → told ws x .answer ≡ told ws′ (renamedBeaten R x) .answer
+    unfolding told renamedBeaten renamedSpent
+    told-same (Beaten.made rule x) = rw (length-map (x .from) (renamedPool R))
+    told-same (Beaten.refused m) = refl
+
+    hold-beaten : (i N C : ℕ) →
+        Follows (renamedBeaten R) (KeptBeaten R) (beaten N C P (g .pool) i) (beaten N C Q (renamedPool R (g .pool)) i)
+    hold-beaten i N C = beaten-follows (n .copies) N C (g .pool) i (g .kept)
+
+    beat-answer : (i N C : ℕ) → Beats.beat s ws i N C .answer ≡ Beats.beat t ws′ i N C .answer
+    beat-answer i N C = go (isPace N C) refl
+      where
+        go : (b : Bool) → isPace N C ≡ b → Beats.beat s ws i N C .answer ≡ Beats.beat t ws′ i N C .answer
+        go true q =
+            rw (beat-lent s ws i N C _ (g .first) q, beat-lent t ws′ i N C _ (g .second) q, hold-beaten i N C .same)
+            (told-same (beaten N C P (g .pool) i))
+        go false q =
+            rw (
+              beat-refused s ws i N C _ (unpaced s ws N C _ (g .first) q),
+              beat-refused t ws′ i N C _ (unpaced t ws′ N C _ (g .second) q),
+            )
+
+    hold-beat : (i N C : ℕ) → Held (Beats.beat s ws i N C .after) (Beats.beat t ws′ i N C .after)
+    unfolding told renamedBeaten renamedSpent
+    hold-beat i N C = go (isPace N C) refl
+      where
+        f : Follows (renamedBeaten R) (KeptBeaten R) (beaten N C P (g .pool) i) (beaten N C Q (renamedPool R (g .pool)) i)
+        f = hold-beaten i N C
+
+        made : isPace N C ≡ true → (x : Beaten) → beaten N C P (g .pool) i ≡ x → KeptBeaten R x →
+            Held (told ws x .after) (told ws′ (renamedBeaten R x) .after)
+        made q (Beaten.made rule x) e h =
+            let few = pace-facts N C q .few in
+            hold-words (x .pool) h (beaten-valid P (read-limits s P r) N C (g .pool) i rule x few valid e)
+            (beaten-valid Q (read-limits t Q r′) N C (renamedPool R (g .pool)) i rule (renamedSpent R x) few valid′
+            (f .same ∙ ap (renamedBeaten R) e))
+        made q (Beaten.refused m) e h = g
+
+        go : (b : Bool) → isPace N C ≡ b → Held (Beats.beat s ws i N C .after) (Beats.beat t ws′ i N C .after)
+        go true q =
+            rw (beat-lent s ws i N C _ (g .first) q, beat-lent t ws′ i N C _ (g .second) q, f .same)
+            (made q (beaten N C P (g .pool) i) refl (f .kept))
+        go false q =
+            rw (
+              beat-refused s ws i N C _ (unpaced s ws N C _ (g .first) q),
+              beat-refused t ws′ i N C _ (unpaced t ws′ N C _ (g .second) q),
+            )
+            g
+
+    -- a run of beats: what it tells is the same, and it leaves such words
+    record Runs (N C : ℕ) (is : List ℕ) : Type 0 where
+      answer : Beats.run s ws N C is .answer ≡ Beats.run t ws′ N C is .answer
+      steps : Beats.run s ws N C is .steps ≡ Beats.run t ws′ N C is .steps
+      promotions : Beats.run s ws N C is .promotions ≡ Beats.run t ws′ N C is .promotions
+      after : Held (Beats.run s ws N C is .after) (Beats.run t ws′ N C is .after)
+
+    hold-runs : (N C : ℕ) (is : List ℕ) → Runs N C is
+    unfolding Beats.reported renamedBeats
+    hold-runs N C is = go (isPace N C) refl
+      where
+        f : Follows (renamedBeats R) (KeptBeats R) (runs N C P (g .pool) is) (runs N C Q (renamedPool R (g .pool)) is)
+        f = runs-follow (n .copies) N C (g .pool) is (g .kept)
+
+        go : (b : Bool) → isPace N C ≡ b → Runs N C is
+        go true q =
+            let few = pace-facts N C q .few in
+            let e = run-lent s ws N C is _ (g .first) q in
+            let e′ = run-lent t ws′ N C is _ (g .second) q in
+            let v′ = runs-valid Q (read-limits t Q r′) N C (renamedPool R (g .pool)) is few valid′ in
+            record {
+              answer = rw (e, e′, f .same);
+              steps = rw (e, e′, f .same);
+              promotions = rw (e, e′, f .same);
+              after = rw (e, e′, f .same)
+                  (hold-words (runs N C P (g .pool) is .pool) (f .kept) (runs-valid P (read-limits s P r) N C (g .pool) is few valid)
+                  (rw (f .same) at v′));
+            }
+        go false q =
+            let e = run-refused s ws N C is _ (unpaced s ws N C _ (g .first) q) in
+            let e′ = run-refused t ws′ N C is _ (unpaced t ws′ N C _ (g .second) q) in
+            record { answer = rw (e, e′); steps = rw (e, e′); promotions = rw (e, e′); after = rw (e, e′) g }
+
     hold-left : (c : Call) → Held (left s ws c) (left t ws′ c)
     hold-left (Call.choose kind i) = hold-after kind i
     hold-left (Call.schedule cs) = hold-run cs
+    hold-left (Call.beat i N C) = hold-beat i N C
+    hold-left (Call.run N C is) = hold-runs N C is .after
     hold-left Call.which = g
     hold-left Call.values = g
 
@@ -138,6 +261,10 @@ module _ (s t : List ℕ) (P Q : Program) (R : Numbering) (r : read s ≡ Answer
           choose = hold-answer;
           schedule = λ cs. rw (g .first, g .second, hold-ran cs .same);
           made = λ cs. rw (g .first, g .second, hold-ran cs .same);
+          beat = beat-answer;
+          run = λ N C is. hold-runs N C is .answer;
+          steps = λ N C is. hold-runs N C is .steps;
+          promotions = λ N C is. hold-runs N C is .promotions;
           values = rw (g .first, g .second, values-follow (n .copies) (g .pool) (g .kept));
           which = which-same s t ws ws′ hold-answer (g .first) (g .second);
           which-back = which-same t s ws′ ws (λ kind i. sym (hold-answer kind i)) (g .second) (g .first);
@@ -149,10 +276,10 @@ module _ (s t : List ℕ) (P Q : Program) (R : Numbering) (r : read s ≡ Answer
   hold-finally (c ∷ cs) g = hold-finally cs (hold-left g c)
 
   -- the answers of the choices in a list of calls
-  while-answers : (a : Answer ℕ) (ps qs : List Put) → answers s ps ≡ answers t qs →
+  while-answers : {A : Type 0} (a : Answer A) (ps qs : List Put) → answers s ps ≡ answers t qs →
       answers s (whileGiven a ps) ≡ answers t (whileGiven a qs)
   unfolding whileGiven
-  while-answers (Answer.given rule) ps qs e = e
+  while-answers (Answer.given a) ps qs e = e
   while-answers (Answer.refused q) ps qs e = refl
 
   schedule-answers : {ws ws′ : List ℤ} (cs : List Choice) → Held ws ws′ → answers s (ofSchedule s ws cs) ≡ answers t (ofSchedule t ws′ cs)
@@ -164,10 +291,24 @@ module _ (s t : List ℕ) (P Q : Program) (R : Numbering) (r : read s ≡ Answer
       rw e (ap {B = List (Answer ℕ)} (λ as′. Calls.choose t ws′ (c .kind) (c .thread) .answer ∷ as′)
       (while-answers (Calls.choose t ws′ (c .kind) (c .thread) .answer) _ _ (schedule-answers cs h)))
 
+  beat-answers : {ws ws′ : List ℤ} (i N C : ℕ) → Held ws ws′ → answers s (ofBeat s ws i N C) ≡ answers t (ofBeat t ws′ i N C)
+  beat-answers {ws} {ws′} i N C g = rw (answers-told s ws i N C, answers-told t ws′ i N C, beat-answer g i N C)
+
+  run-answers : {ws ws′ : List ℤ} (N C : ℕ) (is : List ℕ) → Held ws ws′ → answers s (ofRun s ws N C is) ≡ answers t (ofRun t ws′ N C is)
+  unfolding ofRun
+  run-answers N C [] g = refl
+  run-answers {ws} {ws′} N C (i ∷ is) g =
+      map-append _ (ofBeat s ws i N C) _ ∙
+      ap₂ {C = List (Answer ℕ)} _++_ (beat-answers i N C g)
+      (rw (beat-answer g i N C) (while-answers (Beats.beat t ws′ i N C .answer) _ _ (run-answers N C is (hold-beat g i N C)))) ∙
+      sym (map-append _ (ofBeat t ws′ i N C) _)
+
   call-answers : {ws ws′ : List ℤ} (c : Call) → Held ws ws′ → answers s (ofCall s ws c) ≡ answers t (ofCall t ws′ c)
   unfolding ofCall
   call-answers (Call.choose kind i) g = rw (hold-answer g kind i)
   call-answers (Call.schedule cs) g = schedule-answers cs g
+  call-answers (Call.beat i N C) g = beat-answers i N C g
+  call-answers (Call.run N C is) g = run-answers N C is g
   call-answers Call.which g = refl
   call-answers Call.values g = refl
 

@@ -12,17 +12,23 @@ use Rattle.model.specs.Syntax.{Program}
 use Rattle.model.specs.Pool.{poolWords}
 use Rattle.model.specs.Calls as Calls
 use Rattle.model.specs.Calls.{Choice, Which, Lent, lent, read, check}
+use Rattle.tokens.specs.Beats as Beats
 use Rattle.safety.specs.NeverJams.{Call, Put, choices, finally}
 use Rattle.numbering.specs.Renumbers.{Numbering, renamedPool, Renumbers, Apart, Onto}
 use Rattle.numbering.specs.Tidy.{put, tidy}
 use Rattle.numbering.specs.Order.{Unique, Ordered}
 
 -- whatever is put next, to s with the words ws and to t with the words ws′, is answered the same: a choice its rule or refusal, a
--- schedule also how many choices it made, main's values, and which thread can step
+-- schedule also how many choices it made, a beat also its promotions, a run also its steps and promotions, main's values, and which
+-- thread can step
 pub record Alike (s t : List ℕ) (ws ws′ : List ℤ) : Type 0 where
   pub choose : (kind thread : ℕ) → Calls.choose s ws kind thread .answer ≡ Calls.choose t ws′ kind thread .answer
   pub schedule : (cs : List Choice) → Calls.schedule s ws cs .answer ≡ Calls.schedule t ws′ cs .answer
   pub made : (cs : List Choice) → Calls.schedule s ws cs .made ≡ Calls.schedule t ws′ cs .made
+  pub beat : (thread N C : ℕ) → Beats.beat s ws thread N C .answer ≡ Beats.beat t ws′ thread N C .answer
+  pub run : (N C : ℕ) (threads : List ℕ) → Beats.run s ws N C threads .answer ≡ Beats.run t ws′ N C threads .answer
+  pub steps : (N C : ℕ) (threads : List ℕ) → Beats.run s ws N C threads .steps ≡ Beats.run t ws′ N C threads .steps
+  pub promotions : (N C : ℕ) (threads : List ℕ) → Beats.run s ws N C threads .promotions ≡ Beats.run t ws′ N C threads .promotions
   pub values : Calls.values s ws ≡ Calls.values t ws′
   pub which : (a : Answer (Option ℕ)) → Which s ws a → Which t ws′ a
   pub which-back : (a : Answer (Option ℕ)) → Which t ws′ a → Which s ws a
@@ -31,8 +37,8 @@ pub record Alike (s t : List ℕ) (ws ws′ : List ℤ) : Type 0 where
 abbrev pub answers : List ℕ → List Put → List (Answer ℕ)
 answers s ps = map (λ p. Calls.choose s (p .words) (p .kind) (p .thread) .answer) ps
 
--- the words are pools of the two tables, and the second is the first under the new numbers: all else in them, the values of temporaries
--- too, is the same
+-- the words are pools of the two tables, and the second is the first under the new numbers: all else in them, the values of temporaries,
+-- work and tokens too, is the same
 pub record Correspond (R : Numbering) (s t : List ℕ) (ws ws′ : List ℤ) : Type 0 where
   pub old : Lent
   pub new : Lent
@@ -40,8 +46,8 @@ pub record Correspond (R : Numbering) (s t : List ℕ) (ws ws′ : List ℤ) : T
   pub second : lent t ws′ ≡ Answer.given new
   pub pools : new .pool ≡ renamedPool R (old .pool)
 
--- from fresh pools, every list of calls has the same answers to its choices, those in schedules and refused ones too; whatever is put
--- after it is answered the same; and it leaves pools that correspond by the new numbers
+-- from fresh pools, every list of calls has the same answers to its choices, those in schedules, beats and runs and refused ones too;
+-- whatever is put after it is answered the same; and it leaves pools that correspond by the new numbers
 pub record Same (R : Numbering) (s t : List ℕ) : Type 0 where
   pub rules : (ws ws′ : List ℤ) → length ws ≡ poolWords → length ws′ ≡ poolWords → (cs : List Call) →
       answers s (choices s (Calls.start s ws .after) cs) ≡ answers t (choices t (Calls.start t ws′ .after) cs)

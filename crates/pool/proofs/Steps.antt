@@ -1,36 +1,42 @@
 -- What the steps of each operation leave, for every pool that the words hold.
-use Prim.Native.Nat.{ℕ, suc, _+_, _-_, _%_, _≤_, _<_}
+use Prim.Native.Nat.{ℕ, suc, _+_, _-_, _%_, min, _≤_, _<_}
 use mathlib.Core.Path.{_≡_, refl, sym, ap, subst⁻¹, _∙_}
 use mathlib.Core.List.{List, [], _∷_, _++_}
 use native.Mathlib.Omega.{arith}
+use lib.Dec.{lit≤}
 use lib.IntN.{ℤ, pos}
-use lib.ListN.{length, set, getD, length-append, length-replicate}
+use lib.ListN.{length, set, getD, length-append, length-set, length-replicate}
 use mir.Syntax.{w32}
 use mir.Val.{ofZ}
-use Rattle.model.specs.Pool.{Thread, Pool, mostFrames, mostThreads, frameWords, frameCountAt, threadWords, threadCountAt, poolWords}
-use Rattle.model.specs.Pool.{threadStart, startOf, frames, born, restacked, begin, started, wordsOfThread, wordsOf}
+use Rattle.model.specs.Pool.{Purse, Thread, Pool, mostFrames, mostThreads, mostWork, mostTokens, frameWords, frameCountAt, workAt, tokensAt}
+use Rattle.model.specs.Pool.{threadWords, threadCountAt, poolWords, threadStart, startOf, frames, born, restacked, endowed, begin, started}
+use Rattle.model.specs.Pool.{threadHead, wordsOfThread, wordsOf}
 use Rattle.model.specs.Valid.{ThreadFits}
-use Rattle.model.proofs.Words.{thread-length, thread-count, empty-fits, born-fits, born-words, started-words}
+use Rattle.model.proofs.Words.{thread-length, thread-count, thread-work, thread-tokens, empty-fits, born-fits, born-words, started-words}
 use Rattle.words.specs.Runs.{pasted, moved, cleared}
 use Rattle.pool.specs.Held.{bitsAt, ThreadAt}
-use Rattle.pool.specs.Edits.{threadsIn, framesIn, Pushed, Popped, Added, Removed}
+use Rattle.pool.specs.Edits.{threadsIn, framesIn, workIn, tokensIn, Pushed, Popped, Added, Removed, Endowed}
 use Rattle.pool.proofs.Parts.{zeros, paste-all, set-in-pasted, cleared-pasted}
-use Rattle.pool.proofs.Places.{Around, around, within-fits, pool-within, word-in}
+use Rattle.pool.proofs.Places.{Around, around, around-fits, within-fits, within, pool-within, set-in, word-in}
 use Rattle.pool.proofs.Edits.{pushed, popped}
 use Rattle.pool.proofs.Threads.{added, removed}
+
+-- a word of a thread
+thread-word : {ws : List ℤ} {i : ℕ} {a b : Pool} {t : Thread} → ThreadAt ws i a t b → (j : ℕ) → j < threadWords
+    → getD ws (threadStart i + j) (pos 0) ≡ getD (wordsOfThread t) j (pos 0)
+thread-word {ws} {i} {a} {b} {t} h j l =
+    let o : Around a b = around a b t (h .held .fits) in
+    let f : ThreadFits t = within-fits a b t (h .held .fits) in
+    ap (λ (w : List ℤ). getD w (threadStart i + j) (pos 0)) (h .held .words ∙ pool-within a b t o f)
+    ∙ word-in a b (wordsOfThread t) (threadStart i + j) j o (omega (arith, h .place)) (omega (arith, thread-length f))
 
 -- the counts that words say are those of the pool that they hold
 pub frames-counted : {ws : List ℤ} {i : ℕ} {a b : Pool} {t : Thread} → ThreadAt ws i a t b → framesIn ws i ≡ length (frames t)
 frames-counted {ws} {i} {a} {b} {t} h =
-    let o : Around a b = around a b t (h .held .fits) in
     let f : ThreadFits t = within-fits a b t (h .held .fits) in
-    let at : ℕ = threadStart i + frameCountAt in
-    let e : getD ws at (pos 0) ≡ pos (length (frames t)) =
-    ap (λ (w : List ℤ). getD w at (pos 0)) (h .held .words ∙ pool-within a b t o f)
-    ∙ word-in a b (wordsOfThread t) at frameCountAt o (omega (arith, h .place)) (omega (arith, thread-length f))
-    ∙ thread-count t
+    let n : bitsAt ws (threadStart i + frameCountAt) ≡ length (frames t) =
+    ap (ofZ w32) (thread-word h frameCountAt (lit≤ tt) ∙ thread-count t)
     in
-    let n : bitsAt ws at ≡ length (frames t) = ap (ofZ w32) e in
     omega (arith, f .few)
 
 pool-first : (p : Pool) → getD (wordsOf p) threadCountAt (pos 0) ≡ pos (length p)
@@ -44,12 +50,28 @@ threads-counted {ws} {i} {a} {b} {t} h =
     in
     omega (arith, length-append a (t ∷ b), h .held .fits .few)
 
+-- and so are its work and its tokens
+module _ {ws : List ℤ} {i : ℕ} {a b : Pool} {t : Thread} (h : ThreadAt ws i a t b) where
+  pub work-said : t .purse .work ≤ mostWork → workIn ws i ≡ t .purse .work
+  work-said l =
+      let n : bitsAt ws (threadStart i + workAt) ≡ t .purse .work = ap (ofZ w32) (thread-word h workAt (lit≤ tt) ∙ thread-work t) in
+      omega arith
+
+  pub tokens-said : t .purse .tokens ≤ mostTokens → tokensIn ws i ≡ t .purse .tokens
+  tokens-said l =
+      let n : bitsAt ws (threadStart i + tokensAt) ≡ t .purse .tokens = ap (ofZ w32) (thread-word h tokensAt (lit≤ tt) ∙ thread-tokens t) in
+      omega arith
+
 -- a count that was read
 pub counted-frames : (ws : List ℤ) (i : ℕ) {at n : ℕ} → at ≡ threadStart i → n ≡ bitsAt ws (at + frameCountAt)
     → (n + (mostFrames - 1)) % mostFrames + 1 ≡ framesIn ws i
 counted-frames ws i p e =
     let q : bitsAt ws _ ≡ bitsAt ws (threadStart i + frameCountAt) = ap (λ (at : ℕ). bitsAt ws (at + frameCountAt)) p in
     omega arith
+
+pub purse-read : (ws : List ℤ) (i : ℕ) {at n r : ℕ} (j most : ℕ) → at ≡ threadStart i → n ≡ bitsAt ws (at + j) → r ≡ min n most
+    → r ≡ min (bitsAt ws (threadStart i + j)) most
+purse-read ws i j most p e q = q ∙ ap (λ (m : ℕ). min m most) (e ∙ ap (λ (k : ℕ). bitsAt ws (k + j)) p)
 
 -- words that are cleared, but for the count: those of a new thread of the empty frame
 was-born : (d : List ℤ) (at : ℕ) → at + threadWords ≤ length d
@@ -107,6 +129,38 @@ module _ (ws : List ℤ) (i : ℕ) where
       subst⁻¹ (λ (x : List ℤ). ThreadAt x i a t b) q
       (removed h (n - 1) at (at + threadWords) end (end - at) (omega arith) (omega arith) refl (omega (arith, h .place))
       (omega (arith, h .place)))
+
+-- the words of a thread with another purse
+endowed-words : (t : Thread) (e : Purse)
+    → set (set (wordsOfThread t) workAt (pos (e .work))) tokensAt (pos (e .tokens)) ≡ wordsOfThread (endowed t e)
+unfolding wordsOfThread threadHead
+endowed-words t e = refl
+
+pub was-endowed : (ws : List ℤ) (i : ℕ) (e : Purse) (d₁ d₂ : List ℤ) (at : ℕ) → at ≡ threadStart i
+    → d₁ ≡ set ws (at + workAt) (pos (e .work)) → d₂ ≡ set d₁ (at + tokensAt) (pos (e .tokens)) → Endowed ws i e d₂
+was-endowed ws i e d₁ d₂ at p w₀ w₁ a t b h =
+    let o : Around a b = around a b t (h .held .fits) in
+    let f : ThreadFits t = within-fits a b t (h .held .fits) in
+    let g : ThreadFits (endowed t e) = record { few = f .few; each = f .each } in
+    let T : List ℤ = wordsOfThread t in
+    let T′ : List ℤ = set T workAt (pos (e .work)) in
+    let n : length T ≡ threadWords = thread-length f in
+    let n′ : length T′ ≡ threadWords = length-set T workAt (pos (e .work)) ∙ n in
+    record {
+      held = record {
+        words =
+            w₁
+            ∙ ap (λ (d : List ℤ). set d (at + tokensAt) (pos (e .tokens)))
+            (w₀
+            ∙ ap (λ (d : List ℤ). set d (at + workAt) (pos (e .work))) (h .held .words ∙ pool-within a b t o f)
+            ∙ set-in a b T (at + workAt) workAt o (omega (arith, h .place)) (pos (e .work)) (omega arith))
+            ∙ set-in a b T′ (at + tokensAt) tokensAt o (omega (arith, h .place)) (pos (e .tokens)) (omega arith)
+            ∙ ap (within a b) (endowed-words t e)
+            ∙ sym (pool-within a b (endowed t e) o g);
+        fits = around-fits a b (endowed t e) o g;
+      };
+      place = h .place;
+    }
 
 -- the pool at the start
 pub was-started : (ws d₁ d₂ d₃ : List ℤ) (at : ℕ) → length ws ≡ poolWords → d₁ ≡ cleared ws 0 poolWords → d₂ ≡ set d₁ threadCountAt (pos 1)

@@ -3,13 +3,13 @@
 ghost use mathlib.Core.List.{[]};
 ghost use mathlib.Core.Option.{some};
 ghost use mathlib.Core.Path.{_≡_};
-ghost use Prim.Native.Nat.{_+_, _*_, _<_, _≤_, _%_};
+ghost use Prim.Native.Nat.{_+_, _*_, _<_, _≤_, _%_, min};
 ghost use lib.IntN.{pos};
 ghost use lib.ListN.{length, getD, getElem?, set};
 ghost use Rattle.model.specs.Pool.{begin, mostCalls, mostFrames, mostThreads, temporaries, frameWords, poolWords, threadStart, startOf};
-ghost use Rattle.model.specs.Pool.{wordsOf, started};
+ghost use Rattle.model.specs.Pool.{mostWork, mostTokens, wordsOf, started};
 ghost use Rattle.pool.specs.Held.{bitsAt};
-ghost use Rattle.pool.specs.Edits.{threadsIn, framesIn, Pushed, Popped, Added, Removed};
+ghost use Rattle.pool.specs.Edits.{threadsIn, framesIn, workIn, tokensIn, Pushed, Popped, Added, Removed, Endowed};
 ghost use Rattle.pool.specs.InPlace.{frameAt, newestAt, Named, Jumped, Advanced, Bound, Opened, Closed, Promoted};
 ghost use Rattle.pool.specs.Frame.{modelOf};
 
@@ -259,6 +259,12 @@ pub fn promote_call(ws: &mut [i32], at: usize)
     ws[at + Pool::PROMOTED_AT] = (n + 1) as i32;
 }
 
+fn at_most(n: u32, most: u32) -> u32
+    ensures { λ r. ⌜ r ≡ min n most ⌝ }
+{
+    if n < most { n } else { most }
+}
+
 // How many threads there are, and how many frames a thread has. Words that hold no pool count as some number of 1 to 8.
 pub fn thread_count(ws: &[i32]) -> usize
     requires { ⌜ length (now ws) ≡ poolWords ⌝ }
@@ -286,7 +292,7 @@ pub fn newest_start(ws: &[i32], thread: usize) -> usize
 
 // A count, put into a word.
 fn set_count(ws: &mut [i32], at: usize, n: usize)
-    requires { ⌜ (at < length (now ws)) × (n ≤ 256) ⌝ }
+    requires { ⌜ (at < length (now ws)) × (n ≤ mostTokens) ⌝ }
     ensures { λ _. ⌜ now (ws .exit) ≡ set (now (ws .entry)) at (pos n) ⌝ }
 {
     ws[at] = n as i32;
@@ -340,6 +346,36 @@ pub fn remove_thread(ws: &mut [i32], thread: usize)
     set_count(ws, Pool::THREAD_COUNT_AT, n - 1);
     words::move_run(ws, at + Pool::THREAD_WORDS, at, end - at);
     words::clear(ws, end, Pool::THREAD_WORDS);
+}
+
+// A thread's purse: its work and its tokens. What is above the most that a thread can have counts as the most.
+pub fn work(ws: &[i32], thread: usize) -> u32
+    requires { ⌜ (length (now ws) ≡ poolWords) × (thread < mostThreads) ⌝ }
+    ensures { λ r. ⌜ r ≡ workIn (now (ws .entry)) thread ⌝ }
+{
+    at_most(
+        bits_at(ws, Pool::thread_start(thread) + Pool::WORK_AT),
+        Pool::WORK as u32,
+    )
+}
+
+pub fn tokens(ws: &[i32], thread: usize) -> u32
+    requires { ⌜ (length (now ws) ≡ poolWords) × (thread < mostThreads) ⌝ }
+    ensures { λ r. ⌜ r ≡ tokensIn (now (ws .entry)) thread ⌝ }
+{
+    at_most(
+        bits_at(ws, Pool::thread_start(thread) + Pool::TOKENS_AT),
+        Pool::TOKENS as u32,
+    )
+}
+
+pub fn set_purse(ws: &mut [i32], thread: usize, work: u32, tokens: u32)
+    requires { ⌜ (length (now ws) ≡ poolWords) × (thread < mostThreads) × (work ≤ mostWork) × (tokens ≤ mostTokens) ⌝ }
+    ensures { λ _. ⌜ Endowed (now (ws .entry)) thread (record { work = work; tokens = tokens }) (now (ws .exit)) ⌝ }
+{
+    let at = Pool::thread_start(thread);
+    set_count(ws, at + Pool::WORK_AT, work as usize);
+    set_count(ws, at + Pool::TOKENS_AT, tokens as usize);
 }
 
 // The pool at the start: one thread, with one frame at main's entry.

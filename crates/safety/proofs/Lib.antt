@@ -7,6 +7,8 @@ pub mod Promotions
 pub mod Pools
 pub mod Joins
 pub mod Words
+pub mod Beats
 pub mod Schedules
 pub mod Theorem
 pub mod Prom
+pub mod Counted

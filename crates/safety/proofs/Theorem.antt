@@ -7,6 +7,7 @@ use lib.IntN.{ℤ}
 use lib.ListN.{length}
 use Rattle.model.specs.Numbers as No
 use Rattle.model.specs.Answers.{Refusal, Answer, with}
+use Rattle.model.specs.Lists.{Each}
 use Rattle.model.specs.Syntax.{Program}
 use Rattle.model.specs.Pool.{poolWords, wordsOf, born, begin, started}
 use Rattle.model.specs.Calls as Calls
@@ -15,10 +16,12 @@ use Rattle.model.proofs.Facts.{eq-eqb}
 use Rattle.model.proofs.Accepted.{check-wf}
 use Rattle.model.proofs.Guarantees.{read-limits}
 use Rattle.model.proofs.Words.{started-pool}
-use Rattle.safety.specs.NeverJams.{Call, Answered, Joined, Returned, CanStep, OutOfFrames, Moves, Stands, finally, Safe, Demand3}
+use Rattle.safety.specs.NeverJams.{Call, Put, choices, Answered, Joined, Returned, CanStep, OutOfFrames, Moves, Stands, finally, Safe}
+use Rattle.safety.specs.NeverJams.{Demand3}
 use Rattle.safety.proofs.Typing.{Typed}
 use Rattle.safety.proofs.Frames.{begins}
-use Rattle.safety.proofs.Words.{Table, Good, good-lent, good-after, good-answered, good-joined, good-stands, good-waiting}
+use Rattle.safety.proofs.Words.{Table, Good, good-lent, good-after, good-aside, good-answered, good-joined}
+use Rattle.safety.proofs.Words.{good-stands, good-waiting}
 use Rattle.safety.proofs.Schedules.{finally-kept, calls-each}
 
 -- the table that the check accepts
@@ -48,8 +51,14 @@ good-start {s} T =
       typed = (t, rw (b .owes) tt);
     }
 
-good-finally : {s : List ℕ} (T : Table s) {ws : List ℤ} (cs : List Call) → Good T ws → Good T (finally s ws cs)
-good-finally {s} T cs g = finally-kept s (Good T) (λ _ g. good-after g) cs g
+-- lists of calls, from words of a typed pool on
+module _ {s : List ℕ} (T : Table s) {ws : List ℤ} (cs : List Call) (g : Good T ws) where
+  good-finally : Good T (finally s ws cs)
+  good-finally = finally-kept s (Good T) (λ _ g. good-after g) (λ _ _ r g. good-aside g r) cs g
+
+  good-each : (Q : Put → Type 0) →
+      ((ws : List ℤ) → Good T ws → (kind i : ℕ) → Q (record { words = ws; kind = kind; thread = i })) → Each Q (choices s ws cs)
+  good-each Q q = calls-each s (Good T) (λ _ g. good-after g) (λ _ _ r g. good-aside g r) Q q cs g
 
 module _ {s : List ℕ} (T : Table s) (ws : List ℤ) (n : length ws ≡ poolWords) where
   pub good-started : Good T (start s ws .after)
@@ -58,8 +67,8 @@ module _ {s : List ℕ} (T : Table s) (ws : List ℤ) (n : length ws ≡ poolWor
   safe : (cs : List Call) → Safe s (start s ws .after) cs
   safe cs =
       record {
-        answered = calls-each s (Good T) (λ _ g. good-after g) (Answered s) (λ _ g kind i. good-answered g kind i) cs good-started;
-        joined = calls-each s (Good T) (λ _ g. good-after g) (Joined s) (λ _ g kind i. good-joined g kind i) cs good-started;
+        answered = good-each T cs good-started (Answered s) (λ _ g kind i. good-answered g kind i);
+        joined = good-each T cs good-started (Joined s) (λ _ g kind i. good-joined g kind i);
         stands = good-stands (good-finally T cs good-started);
       }
 

@@ -1,31 +1,33 @@
--- Words that hold a typed pool of the table: every call keeps them so, no choice on them is stuck, every join fits, and they
--- never jam.
+-- Words that hold a typed pool of the table: every choice keeps them so, and so does another purse; no choice on them is stuck, every
+-- join fits, and they never jam.
 use Prim.Native.Nat.{ℕ, _≤_}
 use mathlib.Core.Path.{_≡_, refl, sym, _∙_, ap, subst}
 use mathlib.Core.Logic.{_≢_, _⊎_, inl, inr}
 use mathlib.Core.Bool.{true}
 use mathlib.Core.Option.{some}
-use mathlib.Core.List.{List, [], _∷_}
+use mathlib.Core.List.{List, [], _∷_, _++_}
+use native.Mathlib.Omega.{arith}
 use lib.IntN.{ℤ}
-use lib.ListN.{getElem?}
+use lib.ListN.{length, getElem?}
 use Rattle.model.specs.Numbers as No
 use Rattle.model.specs.Answers.{Refusal, Answer, numberOf, with}
 use Rattle.model.specs.Lists.{Each}
 use Rattle.model.specs.Syntax.{Program}
 use Rattle.model.specs.WellFormed.{WF-prog}
 use Rattle.model.specs.Limits.{Limits}
-use Rattle.model.specs.Pool.{Thread, Pool, wordsOf, isPool}
+use Rattle.model.specs.Pool.{Thread, Pool, frames, wordsOf, isPool}
 use Rattle.model.specs.Rules.{Result, ended, step, onThread, choice, mainValues}
 use Rattle.model.specs.Calls as Calls
 use Rattle.model.specs.Calls.{Lent, Called, lent, read, made}
 use Rattle.model.proofs.Facts.{refused-given, given-injective}
 use Rattle.model.specs.Valid.{IsThread}
 use Rattle.model.proofs.Valid.{pool-facts}
-use Rattle.model.proofs.Words.{lent-words}
+use Rattle.model.proofs.Words.{lent-words, lent-given}
 use Rattle.model.proofs.Kept.{choice-kept, choose-lent}
 use Rattle.model.proofs.Guarantees.{read-limits}
+use Rattle.tokens.specs.Purses.{stacks, Repursed}
 use Rattle.safety.specs.NeverJams.{Answered, Joined, Moves, Stands}
-use Rattle.safety.proofs.Typing.{Typed, Forest}
+use Rattle.safety.proofs.Typing.{Typed, promised, Forest}
 use Rattle.safety.proofs.Steps.{ends}
 use Rattle.safety.proofs.Pools.{Chosen, chosen, Moving, progress, waiting}
 use Rattle.safety.proofs.Joins.{joins-fit}
@@ -57,6 +59,20 @@ front : {P : Program} {r : ℕ} (p : Pool) (rs : List ℕ) → Each (IsThread P)
 unfolding mainValues
 front [] rs h w = absurd w
 front (t ∷ ts) rs h w = record { thread = t; there = refl; valid = h .0; typed = w .0; main = refl }
+
+-- a typed pool is typed by its frames alone
+forest-stacks : (P : Program) (p p′ : Pool) (rs : List ℕ) → stacks p ≡ stacks p′ → Forest P p rs → Forest P p′ rs
+forest-stacks P [] [] rs e w = w
+forest-stacks P [] (u ∷ us) rs e w = absurd (omega (arith, ap length e))
+forest-stacks P (t ∷ ts) [] rs e w = absurd (omega (arith, ap length e))
+forest-stacks P (t ∷ ts) (u ∷ us) [] e w = w
+forest-stacks P (t ∷ ts) (u ∷ us) (r ∷ rs) e w =
+    let k : t .newest ≡ u .newest = cc in
+    let K : t .older ≡ u .older = cc in
+    let y = w .0 in (
+      record { function = y .function; runs = rw k at (y .runs); callers = rw K at (y .callers) },
+      forest-stacks P ts us (promised P (frames u) ++ rs) (cc) (rw (k, K) at (w .1)),
+    )
 
 -- a table that reads as a well-formed program
 pub record Table (s : List ℕ) : Type 0 where
@@ -112,6 +128,19 @@ module _ {s : List ℕ} {T : Table s} {ws : List ℤ} (g : Good T ws) where
 
   pub good-after : (kind i : ℕ) → Good T (Calls.choose s ws kind i .after)
   good-after kind i = rw (good-choose kind i) (after-by kind i (good-chosen kind i) refl)
+
+  -- words that differ in work and tokens alone are words of a typed pool too
+  pub good-aside : {ws′ : List ℤ} → Repursed s ws ws′ → Good T ws′
+  good-aside {ws′} r =
+      let b : r .before .pool ≡ g .pool = ap (λ (l : Lent). l .pool) (given-injective (sym (r .lends) ∙ good-lent)) in
+      let h = lent-given s ws′ (r .after) (r .lends′) in
+      let P : r .after .table ≡ T .program = given-injective (sym (h .reads) ∙ T .reads) in
+      record {
+        pool = r .after .pool;
+        is = h .words;
+        valid = rw P at (h .valid);
+        typed = forest-stacks (T .program) (g .pool) (r .after .pool) (main T) (ap stacks (sym b) ∙ r .same) (g .typed);
+      }
 
   -- every join fits
   pub good-joined : (kind i : ℕ) → Joined s (record { words = ws; kind = kind; thread = i })

@@ -1,1 +1,2 @@
 pub mod NeverJams
+pub mod InTurn

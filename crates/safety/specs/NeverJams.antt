@@ -2,8 +2,9 @@
 use Prim.Native.Nat.{ℕ, _+_, _≤_}
 use mathlib.Core.Path.{_≡_}
 use mathlib.Core.Logic.{_≢_, _⊎_}
+use mathlib.Core.Bool.{cond}
 use mathlib.Core.Option.{none, some}
-use mathlib.Core.List.{List, [], _∷_, _++_}
+use mathlib.Core.List.{List, [], _∷_, _++_, map}
 use lib.IntN.{ℤ}
 use lib.ListN.{length, getElem?}
 use Rattle.model.specs.Numbers as No
@@ -14,11 +15,16 @@ use Rattle.model.specs.Syntax.{Transfer, Block, Function, Program}
 use Rattle.model.specs.Pool.{Frame, Thread, poolWords, blockOf}
 use Rattle.model.specs.Calls as Calls
 use Rattle.model.specs.Calls.{Choice, Lent, lent, check, read}
+use Rattle.tokens.specs.Beats as Beats
+use Rattle.tokens.specs.Beats.{isPace, promotedFrom}
 
--- what may be put: a choice of any kind number and any thread number, a schedule, and the two questions
+-- what may be put: a choice of any kind number and any thread number, a schedule, a beat of any thread number with any N and C, a run of
+-- such beats, and the two questions
 pub data Call : Type 0 where
   choose : ℕ → ℕ → Call
   schedule : List Choice → Call
+  beat : ℕ → ℕ → ℕ → Call
+  run : ℕ → ℕ → List ℕ → Call
   which : Call
   values : Call
 
@@ -26,6 +32,8 @@ pub data Call : Type 0 where
 abbrev pub left : List ℕ → List ℤ → Call → List ℤ
 left s ws (Call.choose kind thread) = Calls.choose s ws kind thread .after
 left s ws (Call.schedule cs) = Calls.schedule s ws cs .after
+left s ws (Call.beat thread N C) = Beats.beat s ws thread N C .after
+left s ws (Call.run N C threads) = Beats.run s ws N C threads .after
 left s ws Call.which = ws
 left s ws Call.values = ws
 
@@ -41,8 +49,8 @@ pub record Put : Type 0 where
   pub thread : ℕ
 
 -- "a schedule counts as its choices in order, up to and with the first refused"
-unfoldable pub whileGiven : Answer ℕ → List Put → List Put
-whileGiven (Answer.given rule) ps = ps
+unfoldable pub whileGiven : {A : Type 0} → Answer A → List Put → List Put
+whileGiven (Answer.given a) ps = ps
 whileGiven (Answer.refused r) ps = []
 
 unfoldable pub ofSchedule : List ℕ → List ℤ → List Choice → List Put
@@ -51,9 +59,25 @@ ofSchedule s ws (c ∷ cs) =
     record { words = ws; kind = c .kind; thread = c .thread } ∷
     whileGiven (Calls.choose s ws (c .kind) (c .thread) .answer) (ofSchedule s (Calls.choose s ws (c .kind) (c .thread) .after) cs)
 
+-- "a beat counts as its step and then the promotions it makes". One with an N or C that there is not (27) puts no step
+unfoldable pub ofBeat : List ℕ → List ℤ → ℕ → ℕ → ℕ → List Put
+ofBeat s ws thread N C =
+    cond (isPace N C)
+    (record { words = ws; kind = 0; thread = thread } ∷
+    map (λ w. record { words = w; kind = 1; thread = thread }) (promotedFrom s ws thread N C))
+    []
+
+-- a run counts as its beats in order, up to and with the first refused, as a schedule does
+unfoldable pub ofRun : List ℕ → List ℤ → ℕ → ℕ → List ℕ → List Put
+ofRun s ws N C [] = []
+ofRun s ws N C (i ∷ is) =
+    ofBeat s ws i N C ++ whileGiven (Beats.beat s ws i N C .answer) (ofRun s (Beats.beat s ws i N C .after) N C is)
+
 unfoldable pub ofCall : List ℕ → List ℤ → Call → List Put
 ofCall s ws (Call.choose kind thread) = record { words = ws; kind = kind; thread = thread } ∷ []
 ofCall s ws (Call.schedule cs) = ofSchedule s ws cs
+ofCall s ws (Call.beat thread N C) = ofBeat s ws thread N C
+ofCall s ws (Call.run N C threads) = ofRun s ws N C threads
 ofCall s ws Call.which = []
 ofCall s ws Call.values = []
 

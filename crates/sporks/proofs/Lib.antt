@@ -7,6 +7,5 @@ pub mod Seen
 pub mod Steps
 pub mod Promotions
 pub mod Choices
-pub mod Puts
 pub mod Theorem
 pub mod Rows

@@ -15,7 +15,11 @@ use Rattle.model.specs.Calls as Calls
 use Rattle.model.specs.Calls.{Choice, Lent, lent, check, start}
 use Rattle.model.proofs.Facts.{none-some, some-injective}
 use Rattle.model.proofs.Runs.{all, blank}
-use Rattle.safety.specs.NeverJams.{Call, Put, whileGiven, ofSchedule, ofCall, choices}
+use Rattle.tokens.specs.Purses.{arrive, worked, handed, kept, purseIn, endow, brought, earned, shared}
+use Rattle.tokens.specs.Beats as Beats
+use Rattle.tokens.specs.Beats.{paying, spend, stepped, beaten, goOn, runs, isPace, paced, lentAt, beating, beat, putTo, promoting}
+use Rattle.tokens.specs.Beats.{promotedFrom, reported, running, run}
+use Rattle.safety.specs.NeverJams.{Call, Put, whileGiven, ofSchedule, ofBeat, ofRun, ofCall, choices}
 use Rattle.sporks.specs.Openers.{front, turn, onList, follow, follows, openers, opener}
 use Rattle.sporks.specs.Handed.{replyTo, replies, argumentsOf, standing, openCalls, openIn, Hands, Handed}
 
@@ -63,7 +67,9 @@ spawn g x̄ = g ∷ list x̄
 -- every definition that a row computes with
 unfoldable every : Type 0
 unfolding all
-    whileGiven ofSchedule ofCall choices front turn onList follow follows openers opener argumentsOf standing openCalls
+    whileGiven ofSchedule ofBeat ofRun ofCall choices front turn onList follow follows openers opener argumentsOf standing openCalls
+    isPace paced lentAt arrive worked handed kept purseIn endow brought earned shared paying spend stepped beaten Beats.told beating
+    beat putTo promoting promotedFrom goOn runs reported running run
 every = Unit {0}
 
 abbrev step : ℕ → Choice
@@ -188,8 +194,12 @@ afterEach s qs [] = []
 afterEach s qs (p ∷ ps) = openers (replies s (qs ++ (p ∷ []))) ∷ afterEach s (qs ++ (p ∷ [])) ps
 
 -- every row is right
-pub right : (map (λ r. r .answer) (replies loop (put loop day)) ≡ map (λ r. r .answer) rows) ×
-    (afterEach loop [] (put loop day) ≡ map (λ r. r .openers) rows)
+abbrev Right : List Call → List Row → Type 0
+Right cs rs =
+    (map (λ r. r .answer) (replies loop (put loop cs)) ≡ map (λ r. r .answer) rs) ×
+    (afterEach loop [] (put loop cs) ≡ map (λ r. r .openers) rs)
+
+pub right : Right day rows
 unfolding every
 right = (refl, refl)
 
@@ -214,9 +224,56 @@ births =
     birth 29 1 (pos 10 ∷ []) ∷
     []
 
-pub births-right : map (λ b. _>>=_ (getElem? (put loop day) (b .number)) (behind loop)) births ≡ map (λ b. some (born (b .frame))) births
+abbrev Born : List Call → List Birth → Type 0
+Born cs bs = map (λ b. _>>=_ (getElem? (put loop cs) (b .number)) (behind loop)) bs ≡ map (λ b. some (born (b .frame))) bs
+
+pub births-right : Born day births
 unfolding every
 births-right = refl
+
+-- beats on it, each of which brings a token: two runs, and beats between them. The first of these has no N and puts no choice, and the
+-- last thread of the second run is not beaten, since the beat before it is refused
+abbrev pub beats : List Call
+beats =
+    Call.run 1 1 (0 ∷ 0 ∷ 0 ∷ 0 ∷ []) ∷
+    Call.beat 1 0 1 ∷
+    Call.beat 1 1 1 ∷
+    Call.beat 1 1 1 ∷
+    Call.run 1 1 (0 ∷ 0 ∷ 0 ∷ 0 ∷ 0 ∷ 0 ∷ 0 ∷ 0 ∷ []) ∷
+    []
+
+abbrev pub beatRows : List Row
+beatRows =
+    -- 0 to 5: each spork is promoted at once; the second child stands before the first
+    makes No.stmt ([] ∷ []) ∷
+    makes No.goto ([] ∷ []) ∷
+    makes No.spork ((2 ∷ []) ∷ []) ∷
+    makes No.promote ((2 ∷ []) ∷ [] ∷ []) ∷
+    makes No.spork ((2 ∷ 4 ∷ []) ∷ [] ∷ []) ∷
+    makes No.promote ((2 ∷ 4 ∷ []) ∷ [] ∷ [] ∷ []) ∷
+    -- 6 to 8: so is that of the second child
+    makes No.stmt ((2 ∷ 4 ∷ []) ∷ [] ∷ [] ∷ []) ∷
+    makes No.spork ((2 ∷ 4 ∷ []) ∷ (7 ∷ []) ∷ [] ∷ []) ∷
+    makes No.promote ((2 ∷ 4 ∷ []) ∷ (7 ∷ []) ∷ [] ∷ [] ∷ []) ∷
+    -- 9 to 13: and that of the function called
+    makes No.stmt ((2 ∷ 4 ∷ []) ∷ (7 ∷ []) ∷ [] ∷ [] ∷ []) ∷
+    makes No.call ((2 ∷ 4 ∷ []) ∷ (7 ∷ []) ∷ [] ∷ [] ∷ []) ∷
+    makes No.stmt ((2 ∷ 4 ∷ []) ∷ (7 ∷ []) ∷ [] ∷ [] ∷ []) ∷
+    makes No.spork ((2 ∷ 4 ∷ 12 ∷ []) ∷ (7 ∷ []) ∷ [] ∷ [] ∷ []) ∷
+    makes No.promote ((2 ∷ 4 ∷ 12 ∷ []) ∷ [] ∷ (7 ∷ []) ∷ [] ∷ [] ∷ []) ∷
+    -- 14 to 16: that child is ended and joined; the next is not, and the run stops
+    makes No.prom ((2 ∷ 4 ∷ []) ∷ (7 ∷ []) ∷ [] ∷ [] ∷ []) ∷
+    makes No.return ((2 ∷ 4 ∷ []) ∷ (7 ∷ []) ∷ [] ∷ [] ∷ []) ∷
+    refuses No.waits ((2 ∷ 4 ∷ []) ∷ (7 ∷ []) ∷ [] ∷ [] ∷ []) ∷
+    []
+
+pub beats-right : Right beats beatRows
+unfolding every
+beats-right = (refl, refl)
+
+pub beat-births : Born beats (birth 3 1 (pos 5 ∷ []) ∷ birth 5 1 (pos 5 ∷ []) ∷ birth 8 2 (pos 10 ∷ []) ∷ birth 13 2 (pos 20 ∷ []) ∷ [])
+unfolding every
+beat-births = refl
 
 -- main sets temporary 0 to 1 and sporks function 1 of it; under that it sets temporary 1 to 2 and goes with it to block 2, which takes
 -- it as temporary x, has the scope Γ, and spoins

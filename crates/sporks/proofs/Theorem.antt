@@ -1,8 +1,9 @@
 -- S-5, proved: what is so after every choice of a list, and what a promotion hands the child.
 use Prim.Native.Nat.{ℕ, zero, suc, _+_}
 use mathlib.Core.Path.{_≡_, refl, sym, _∙_, ap, subst}
+use mathlib.Core.Logic.{inl, inr}
 use mathlib.Core.Option.{some, Option·map}
-use mathlib.Core.List.{List, [], _∷_, _++_, map-append, append-assoc, append-nil}
+use mathlib.Core.List.{List, [], _∷_, _++_, map, map-map, map-append, append-assoc, append-nil}
 use native.Mathlib.Omega.{arith}
 use lib.IntN.{ℤ}
 use lib.ListN.{length, getElem?, take, length-map}
@@ -17,15 +18,16 @@ use Rattle.model.proofs.Guarantees.{read-limits}
 use Rattle.model.proofs.Words.{lent-words, started-pool}
 use Rattle.model.proofs.Kept.{choose-kept}
 use Rattle.model.proofs.Numbers.{choose-leaves}
-use Rattle.safety.specs.NeverJams.{Put, left, choices}
+use Rattle.tokens.specs.Purses.{stacks}
+use Rattle.safety.specs.NeverJams.{Put, choices, finally}
+use Rattle.safety.specs.InTurn.{Aside, InTurn}
 use Rattle.safety.proofs.Owed.{last-at}
-use Rattle.safety.proofs.Words.{Table, Good, good-lent, good-after, main, limits, threads}
-use Rattle.safety.proofs.Schedules.{leftBy}
+use Rattle.safety.proofs.Words.{Table, Good, good-lent, good-after, good-aside, main, limits, threads}
+use Rattle.safety.proofs.Schedules.{faithful}
 use Rattle.safety.proofs.Theorem.{accepted, starts, good-started}
 use Rattle.sporks.specs.Openers.{Reply, follow, follows, openers, opener}
 use Rattle.sporks.specs.Handed.{replyTo, replies, OpenCall, standing, openCalls, openIn, Sporked, Kept, Hands, Arguments}
 use Rattle.sporks.proofs.Pairs.{Paired², paired-map, paired-at, paired-on}
-use Rattle.sporks.proofs.Puts.{Chained, chained, left-finally}
 use Rattle.sporks.proofs.Seen.{inPool, Seen, Sees, Sporks}
 use Rattle.sporks.proofs.Choices.{sees-choice}
 
@@ -208,23 +210,34 @@ after-start {s} T ws n =
     (rw (starts s ws (T .reads) n) (lent-words s P started (T .reads) (started-pool P (read-limits s P (T .reads))))) (tt, tt)
 
 module _ {s : List ℕ} {T : Table s} where
-  from : {ps : List Put} {vs ws : List ℤ} → vs ≡ ws → After T ps ws → After T ps vs
-  from e a = rw e a
+  -- work and tokens aside
+  carried : (ps : List Put) {ws ws′ : List ℤ} → Aside s ws ws′ → After T ps ws → After T ps ws′
+  carried ps (inl e) a = rw e at a
+  carried ps (inr r) a =
+      let g = a .good in
+      let P = T .program in
+      let h = good-aside g r in
+      let b : r .before .pool ≡ g .pool = ap (λ (l : Lent). l .pool) (given-injective (sym (r .lends) ∙ good-lent g)) in
+      let c : r .after .pool ≡ h .pool = ap (λ (l : Lent). l .pool) (given-injective (sym (r .lends′) ∙ good-lent h)) in
+      let e : stacks (g .pool) ≡ stacks (h .pool) = ap stacks (sym b) ∙ r .same ∙ ap stacks c in
+      let f : inPool P (g .pool) ≡ inPool P (h .pool) =
+      sym (map-map (openCalls P) frames (g .pool)) ∙ ap (map (openCalls P)) e ∙ map-map (openCalls P) frames (h .pool)
+      in
+      record { good = h; paired = rw (← f) (a .paired) }
 
   -- before each choice of a list that goes on from there, and at its end
-  before : (ps : List Put) (ws : List ℤ) (qs : List Put) → Chained s ws qs → After T ps ws → (m : ℕ) (q : Put) → getElem? qs m ≡ some q →
-      After T (ps ++ take m qs) (q .words)
-  before ps ws [] h a m q e = none-some e
-  before ps ws (p ∷ qs) h a zero q e = rw (append-nil ps, ← some-injective e, h .0) a
-  before ps ws (p ∷ qs) h a (suc m) q e =
-      let b = after-choice p (from (h .0) a) in
-      rw (← append-assoc ps (p ∷ []) (take m qs)) (before (ps ++ (p ∷ [])) _ qs (h .1) b m q e)
+  before : (ps : List Put) (ws : List ℤ) (qs : List Put) (ws′ : List ℤ) → InTurn s ws qs ws′ → After T ps ws → (m : ℕ) (q : Put) →
+      getElem? qs m ≡ some q → After T (ps ++ take m qs) (q .words)
+  before ps ws [] ws′ h a m q e = none-some e
+  before ps ws (p ∷ qs) ws′ h a zero q e = rw (append-nil ps, ← some-injective e) (carried ps (h .0) a)
+  before ps ws (p ∷ qs) ws′ h a (suc m) q e =
+      rw (← append-assoc ps (p ∷ []) (take m qs))
+      (before (ps ++ (p ∷ [])) _ qs ws′ (h .1) (after-choice p (carried ps (h .0) a)) m q e)
 
-  at-end : (ps : List Put) (ws : List ℤ) (qs : List Put) → Chained s ws qs → After T ps ws → After T (ps ++ qs) (leftBy s ws qs)
-  unfolding leftBy
-  at-end ps ws [] h a = rw (append-nil ps) a
-  at-end ps ws (p ∷ qs) h a =
-      rw (← append-assoc ps (p ∷ []) qs) (at-end (ps ++ (p ∷ [])) _ qs (h .1) (after-choice p (from (h .0) a)))
+  at-end : (ps : List Put) (ws : List ℤ) (qs : List Put) (ws′ : List ℤ) → InTurn s ws qs ws′ → After T ps ws → After T (ps ++ qs) ws′
+  at-end ps ws [] ws′ h a = rw (append-nil ps) (carried ps h a)
+  at-end ps ws (p ∷ qs) ws′ h a =
+      rw (← append-assoc ps (p ∷ []) qs) (at-end (ps ++ (p ∷ [])) _ qs ws′ (h .1) (after-choice p (carried ps (h .0) a)))
 
 -- a child's arguments are those of the spork
 pub arguments-kept : Arguments
@@ -233,9 +246,14 @@ arguments-kept s ws h n cs =
     let w = Calls.start s ws .after in
     let a = after-start T ws n in
     let ps = choices s w cs in
-    let b = before [] w ps (chained s w cs) a in
+    let b = before [] w ps (finally s w cs) (faithful s w cs) a in
     record {
       promotions = λ m p e r. hands p (b m p e) r;
       ever = λ m p e. after-kept (b m p e);
-      after = after-kept (rw (left-finally s w cs) at (at-end [] w ps (chained s w cs) a));
+      after = after-kept (at-end [] w ps (finally s w cs) (faithful s w cs) a);
     }
+
+-- and of a promotion that comes next after any choices in turn
+pub next-hands : (s : List ℕ) (ws : List ℤ) → Calls.check s ≡ Answer.given tt → length ws ≡ poolWords → (ps : List Put) (p : Put) →
+    InTurn s (Calls.start s ws .after) ps (p .words) → replyTo s p .answer ≡ Answer.given No.promote → Hands s ps p
+next-hands s ws h n ps p t r = hands p (at-end [] (Calls.start s ws .after) ps (p .words) t (after-start (accepted s h) ws n)) r

@@ -71,8 +71,8 @@ Paired R [] (y ∷ ys) = ⊥
 Paired R (x ∷ xs) [] = ⊥
 Paired R (x ∷ xs) (y ∷ ys) = R x y × Paired R xs ys
 
--- after the choices ps, which left the words ws: they are a pool of the table, in which every open call of every thread has for its
--- arguments the values that they had at its spork
+-- after the choices ps, which left the words ws, work and tokens aside: they are a pool of the table, in which every open call of every
+-- thread has for its arguments the values that they had at its spork
 pub record Kept (s : List ℕ) (ps : List Put) (ws : List ℤ) : Type 0 where
   pub lends : Lent
   pub pool : lent s ws ≡ Answer.given lends
@@ -111,7 +111,7 @@ pub record Hands (s : List ℕ) (ps : List Put) (p : Put) : Type 0 where
   pub begun : child .newest ≡ begin (spawn .function) (spork .values)
 
 -- the claim, about the whole list of calls put from the words ws on: of each promotion made in it, by a single choice or within a
--- schedule; and of the open calls, in the words that each choice is put with and in those left
+-- schedule, a beat or a run; and of the open calls, in the words that each choice is put with and in those left
 pub record Handed (s : List ℕ) (ws : List ℤ) (cs : List Call) : Type 0 where
   pub promotions : (m : ℕ) (p : Put) → getElem? (choices s ws cs) m ≡ some p → replyTo s p .answer ≡ Answer.given No.promote →
       Hands s (take m (choices s ws cs)) p

@@ -1,7 +1,7 @@
 -- A choice on words is the model's choice, and the words are a pool of the table afterwards.
 use Prim.Native.Nat.{ℕ, zero, suc, _≤_, _<_}
 use mathlib.Core.Path.{_≡_, refl, sym, ap, subst, _∙_}
-use mathlib.Core.Bool.{true, false}
+use mathlib.Core.Bool.{true}
 use mathlib.Core.List.{List, [], _∷_, _++_}
 use native.Mathlib.Omega.{arith}
 use lib.Dec.{ltb}
@@ -10,13 +10,13 @@ use lib.ListN.{length, length-append}
 use Rattle.model.specs.Numbers as No
 use Rattle.model.specs.Syntax.{Program}
 use Rattle.model.specs.Limits.{Limits}
-use Rattle.model.specs.Pool.{Thread, Pool, mostThreads, wordsOf, trees, isPool}
+use Rattle.model.specs.Pool.{Thread, Pool, mostThreads, wordsOf, isPool}
 use Rattle.model.specs.Answers.{Refusal, Answer}
 use Rattle.model.specs.Rules.{Result, ended, step, promote, onThread, choice, mainValues}
 use Rattle.model.specs.Calls.{Called, made}
-use Rattle.model.proofs.Facts.{refused-given, true-false}
+use Rattle.model.proofs.Facts.{refused-given}
 use Rattle.model.specs.Valid.{IsPool}
-use Rattle.model.proofs.Valid.{pool-facts}
+use Rattle.model.proofs.Valid.{pool-facts, some-thread}
 use Rattle.model.proofs.Words.{pool-fits, words-valid}
 use Rattle.model.proofs.Kept.{choice-kept}
 use Rattle.places.specs.Places.{Places}
@@ -58,17 +58,9 @@ module _ (P : Program) (p : Pool) {ws : List ℤ} (w : ws ≡ wordsOf p) (v : is
         valid = subst (IsPool P) (r .is) (pool-facts P p v);
       }
 
-  pub some-thread : 0 < length p
-  unfolding trees
-  some-thread = go p (pool-facts P p v .tree)
-    where
-      go : (p : Pool) → trees 1 p ≡ true → 0 < length p
-      go [] e = true-false false e refl
-      go (t ∷ p) e = omega arith
-
   pub pool-counted : threadsIn ws ≡ length p
   pool-counted =
-      let r = around p 0 some-thread in
+      let r = around p 0 (some-thread P p v) in
       let h : ThreadAt ws 0 (r .front) (r .thread) (r .back) = record { held = subst (Held ws) (r .is) is-held; place = r .place } in
       omega (arith, threads-counted h, ap length (r .is), length-append (r .front) (r .thread ∷ r .back))
 
@@ -182,6 +174,6 @@ main-first P (u ∷ a) t b h = absurd (omega arith)
 pub main-looked : (s places : List ℕ) (ws : List ℤ) (o : Looked) (P : Program) (p : Pool) → Ends s places ws 0 o → Places s P places
     → ws ≡ wordsOf p → isPool P p ≡ true → o ≡ lookedAs (mainValues P p)
 main-looked s places ws o P p f q w v =
-    let x = around p 0 (some-thread P p w v) in
+    let x = around p 0 (some-thread P p v) in
     f P (x .front) (x .thread) (x .back) (known-at P p w v q x)
     ∙ ap lookedAs (sym (ap (mainValues P) (x .is) ∙ main-first P (x .front) (x .thread) (x .back) (x .place)))

@@ -11,8 +11,8 @@ use lib.ListN.{length, getD, take, drop, length-drop, take-append-drop}
 use Rattle.model.specs.Lists.{all, Each, pad, concat}
 use Rattle.model.specs.Syntax.{Program}
 use Rattle.model.specs.Pool.{Frame, Thread, mostFrames, mostWork, mostTokens, doneAt, openedAt, promotedAt, frameWords, frameCountAt}
-use Rattle.model.specs.Pool.{workAt, tokensAt, framesAt, threadWords, frames, born, endowed, restacked, begin, wordsOfFrame, threadHead, wordsOfThread, runs}
-use Rattle.model.specs.Pool.{wordAt, countAt, frameOf, purseOf, threadOf, sameWords, children}
+use Rattle.model.specs.Pool.{workAt, tokensAt, framesAt, threadWords, frames, born, endowed, restacked, begin, wordsOfFrame}
+use Rattle.model.specs.Pool.{threadHead, wordsOfThread, runs, wordAt, countAt, frameOf, purseOf, threadOf, sameWords, children}
 use Rattle.model.proofs.Facts.{and-left, and-right, both-and, right-false, or-right, each-map, eqb-true, eqb-false, eq-eqb, ne-eqb}
 use Rattle.model.specs.Valid.{IsOlder, Settled, Ordered, IsPurse, IsThread, FrameFits, ThreadFits}
 use Rattle.model.proofs.Valid.{thread-facts, facts-thread, Upright, restacked-frames, restacked-purse, thread-upright}

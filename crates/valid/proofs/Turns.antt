@@ -13,7 +13,8 @@ use lib.Seq.{take-all, drop-drop}
 use Rattle.model.specs.Lists.{all}
 use Rattle.model.specs.Syntax.{Program}
 use Rattle.model.specs.Pool.{mostFrames, mostThreads, mostWork, mostTokens, doneAt, openedAt, promotedAt, frameWords, frameCountAt}
-use Rattle.model.specs.Pool.{workAt, tokensAt, framesAt, threadWords, threadCountAt, threadsAt, poolWords, frames, runs, threadOf, children, arePool}
+use Rattle.model.specs.Pool.{workAt, tokensAt, framesAt, threadWords, threadCountAt, threadsAt, poolWords, frames, runs, threadOf}
+use Rattle.model.specs.Pool.{children, arePool}
 use Rattle.model.proofs.Facts.{true-false, lt-ltb, le-ltb, leb-true, le-leb, and-left, and-right, both-and, not-true, not-false}
 use Rattle.valid.specs.declared.Children.{Children}
 use Rattle.valid.specs.declared.Children.the-variants.{Are, Bad}
@@ -116,7 +117,8 @@ module _ (P : Program) (t : List ℤ) (l : length t ≡ threadWords) where
   not-purse r e b =
       not-thread (λ h.
       true-false r
-      (e ∙ both-and (leb (num t workAt) mostWork) _ (le-leb (num t workAt) mostWork (h .work)) (le-leb (num t tokensAt) mostTokens (h .tokens)))
+      (e ∙ both-and (leb (num t workAt) mostWork) _ (le-leb (num t workAt) mostWork (h .work))
+      (le-leb (num t tokensAt) mostTokens (h .tokens)))
       (not-true r b))
 
   module _ (n : ℕ) (r : Bool) (e : n ≡ num t frameCountAt) (z : r ≡ all isZero (piece (framesAt + frameWords * n) threadWords t)) where

@@ -1,5 +1,6 @@
 //! Programs that never end, and choices on them that are all made.
 
+use fast::Pace;
 use mezdaulk::Choice;
 use oracle::encode::encode;
 use oracle::gen::programs::pad;
@@ -12,12 +13,24 @@ const SEED: u64 = 1;
 /// How many pools along a run are asked about.
 const POOLS: usize = 64;
 
-/// A program that never ends, its table, and choices from its start.
+/// The paces of the runs: a token now and then, and more than can be spent.
+const PACES: [Pace; 2] = [Pace { n: 100, c: 1 }, Pace { n: 1, c: 255 }];
+
+/// A program that never ends, its table, and choices and beats from its start.
 #[derive(Clone)]
 pub struct Looping {
     title: &'static str,
     program: Program,
     pub table: Vec<u8>,
+    pub choices: Vec<Choice>,
+    pub beats: [Beats; 2],
+}
+
+/// Beats that are all made, and the steps and promotions that they make.
+#[derive(Clone)]
+pub struct Beats {
+    pub pace: Pace,
+    pub threads: Vec<u32>,
     pub choices: Vec<Choice>,
 }
 
@@ -27,6 +40,7 @@ impl Looping {
         assert_eq!(oracle::check(&table), Ok(()));
         Looping {
             choices: choices(&program, count),
+            beats: PACES.map(|pace| Beats::new(&table, pace, count)),
             title,
             program,
             table,
@@ -46,6 +60,7 @@ impl Looping {
                     program,
                     table,
                     choices: self.choices.clone(),
+                    beats: self.beats.clone(),
                 };
             }
         }
@@ -83,6 +98,43 @@ impl Looping {
             thread: choice.thread,
         };
         self.choices.iter().map(each).collect()
+    }
+}
+
+impl Beats {
+    /// Of any thread that can step.
+    fn new(table: &[u8], pace: Pace, count: usize) -> Self {
+        let mut rng = Rng::new(SEED);
+        let mut words = Pool::start().to_words();
+        let (mut threads, mut choices) = (Vec::with_capacity(count), Vec::new());
+        while threads.len() < count {
+            let thread = rng.below(words[0] as usize) as u32;
+            if let Ok((_, promotions)) = fast::beat(table, &mut words, pace, thread) {
+                threads.push(thread);
+                choices.push(Choice::step(thread));
+                choices.extend((0..promotions).map(|_| Choice::promote(thread)));
+            }
+        }
+        Beats {
+            pace,
+            threads,
+            choices,
+        }
+    }
+
+    pub fn name(&self) -> String {
+        format!("N = {}, C = {}", self.pace.n, self.pace.c)
+    }
+
+    /// The pace, for the library.
+    pub fn lent(&self) -> mezdaulk::Pace {
+        let Pace { n, c } = self.pace;
+        mezdaulk::Pace { n, c }
+    }
+
+    /// How many promotions the beats make.
+    pub fn promotions(&self) -> usize {
+        self.choices.len() - self.threads.len()
     }
 }
 

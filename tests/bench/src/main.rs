@@ -1,6 +1,6 @@
 //! The library timed beside the fast implementation, in one run: each call at
-//! small, middle and full-size tables, and a schedule of 1,000,000 choices.
-//! The output is Markdown.
+//! small, middle and full-size tables, a schedule of 1,000,000 choices, and a
+//! run of 1,000,000 beats. The output is Markdown.
 
 mod clock;
 mod looping;
@@ -9,8 +9,8 @@ mod tables;
 
 use clock::{duel, show, Duel};
 use fast::POOL_WORDS;
-use looping::Looping;
-use mezdaulk::{lent, OUTPUT_BYTES, SCRATCH_WORDS};
+use looping::{Beats, Looping};
+use mezdaulk::{lent, Ran, OUTPUT_BYTES, SCRATCH_WORDS};
 use oracle::table::{BRIEF_MAX, TABLE_MAX};
 use std::hint::black_box;
 use tables::Calls;
@@ -61,6 +61,7 @@ fn main() {
     for run in &runs {
         row("single choice", &run.name(), Some(1.3), choose(run), 1);
     }
+    each_beats(&runs, "single beat", beat, 1);
     for run in &runs {
         row("which", &run.name(), None, which(run), 1);
     }
@@ -79,6 +80,7 @@ fn main() {
             )
         })
         .collect();
+    each_beats(&runs, "run, each of 1,000,000", run_beats, CHOICES);
     growth([
         ("read", &any, &reads),
         ("check", &any, &checks),
@@ -86,8 +88,20 @@ fn main() {
         ("tidy", &any, &tidies),
     ]);
     same_program(&runs, &schedules);
+    same_choices([&small, &rich]);
     runner::time(&small, CHOICES);
     runner::time(&rich, CHOICES);
+}
+
+/// A row for each pace of each run.
+fn each_beats(runs: &[Looping], call: &str, time: fn(&Looping, &Beats) -> Duel, parts: usize) {
+    for at in 0..runs[0].beats.len() {
+        for run in runs {
+            let beats = &run.beats[at];
+            let call = format!("{call}, {}", beats.name());
+            row(&call, &run.name(), None, time(run, beats), parts);
+        }
+    }
 }
 
 /// Tables of three sizes, by name.
@@ -221,6 +235,31 @@ fn choose(run: &Looping) -> Duel {
     duel
 }
 
+/// The first beats of a run, put one by one.
+fn beat(run: &Looping, beats: &Beats) -> Duel {
+    let start = run.start();
+    let (mut left, mut right) = (start.clone(), start.clone());
+    let duel = duel(
+        || {
+            left.copy_from_slice(&start);
+            for &thread in &beats.threads[..SINGLE] {
+                let made = lent::beat(&run.table, &mut left, beats.lent(), thread);
+                assert!(made.is_ok());
+            }
+        },
+        || {
+            right.copy_from_slice(&start);
+            for &thread in &beats.threads[..SINGLE] {
+                let made = fast::beat(&run.table, &mut right, beats.pace, thread);
+                assert!(made.is_ok());
+            }
+        },
+    )
+    .divided(SINGLE);
+    assert_eq!(left, right);
+    duel
+}
+
 /// Asked of pools along a run.
 fn which(run: &Looping) -> Duel {
     let pools = run.pools();
@@ -281,6 +320,63 @@ fn schedule(run: &Looping) -> Duel {
     assert_eq!(left, right);
     assert_eq!(left.len(), POOL_WORDS);
     duel
+}
+
+/// All beats of a run, at once.
+fn run_beats(run: &Looping, beats: &Beats) -> Duel {
+    let start = run.start();
+    let (steps, promotions) = (beats.threads.len() as u64, beats.promotions() as u64);
+    let (mut left, mut right) = (start.clone(), start.clone());
+    let duel = duel(
+        || {
+            left.copy_from_slice(&start);
+            let made = lent::run(&run.table, &mut left, beats.lent(), &beats.threads);
+            assert_eq!(made, (Ran { steps, promotions }, Ok(())));
+        },
+        || {
+            right.copy_from_slice(&start);
+            let made = fast::run(&run.table, &mut right, beats.pace, &beats.threads);
+            assert_eq!(made, (fast::Ran { steps, promotions }, Ok(())));
+        },
+    );
+    assert_eq!(left, right);
+    duel
+}
+
+/// A run of the library beside its own schedule of the same steps and
+/// promotions.
+fn same_choices(runs: [&Looping; 2]) {
+    println!("\n| Beats | Promotions | run, each beat | the same as a schedule | Ratio of best | Median ratio |");
+    println!("|---|---|---|---|---|---|");
+    for run in runs {
+        let start = run.start();
+        for beats in &run.beats {
+            let (mut left, mut right) = (start.clone(), start.clone());
+            let duel = duel(
+                || {
+                    left.copy_from_slice(&start);
+                    let (_, made) = lent::run(&run.table, &mut left, beats.lent(), &beats.threads);
+                    assert_eq!(made, Ok(()));
+                },
+                || {
+                    right.copy_from_slice(&start);
+                    let (_, made) = lent::schedule(&run.table, &mut right, &beats.choices);
+                    assert_eq!(made, Ok(()));
+                },
+            );
+            let each = duel.divided(beats.threads.len());
+            println!(
+                "| {}, {} | {} | {} | {} | {:.2} | {:.2} |",
+                run.name(),
+                beats.name(),
+                beats.promotions(),
+                show(each.library),
+                show(each.fast),
+                each.ratio(),
+                each.median,
+            );
+        }
+    }
 }
 
 /// How the library's times of the calls on a table alone grow with the table.

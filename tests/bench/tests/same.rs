@@ -3,8 +3,10 @@
 use fast::Fast;
 use oracle::encode::encode;
 use oracle::full;
-use oracle::gen::{brief, calls, faults, programs, scenario, twins};
-use oracle::machine::{complete_differs, differences, tables_differ, Machine};
+use oracle::gen::beats::{guided_run, quick_pace};
+use oracle::gen::{brief, calls, faults, loops, programs, scenario, twins};
+use oracle::machine::{complete_differs, differences, tables_differ, Machine, Oracle};
+use oracle::pool::Pool;
 use oracle::rng::Rng;
 use oracle::stored::{brief_rows, frame_starts, tidy_rows};
 use oracle::POOL_WORDS;
@@ -66,6 +68,36 @@ fn same_completions() {
         let found = complete_differs(&Fast, &input.table);
         assert!(found.is_none(), "round {round}: {found:?}");
     }
+}
+
+/// Long runs from fresh pools, at once and beat by beat, of tables that loop.
+#[test]
+fn same_runs() {
+    let mut promotions = 0;
+    for round in 0..500 {
+        let rng = &mut Rng::of_round(11, round);
+        let (program, start) = (loops::looping(rng), Pool::start());
+        let (table, fresh) = (encode(&program), start.to_words());
+        let pace = quick_pace(rng);
+        let mut threads = guided_run(rng, &program, &start, pace, 1_000, true);
+        let widest = Fast.widest();
+        threads
+            .iter_mut()
+            .for_each(|thread| *thread = (*thread).min(widest));
+        let (mut left, mut right) = (fresh.clone(), fresh.clone());
+        let (mut made, mut due) = ([9, 9], [9, 9]);
+        let answer = Fast.run(&table, &mut left, pace, &threads, &mut made);
+        let right_answer = Oracle.run(&table, &mut right, pace, &threads, &mut due);
+        assert_eq!((answer, made), (right_answer, due), "round {round}");
+        assert_eq!(left, right, "round {round}");
+        let mut single = fresh;
+        for &thread in &threads[..made[0] as usize] {
+            assert!(Fast.beat(&table, &mut single, pace, thread).is_ok());
+        }
+        assert_eq!(single, right, "round {round}, beat by beat");
+        promotions += made[1];
+    }
+    assert!(promotions > 5_000, "{promotions} promotions");
 }
 
 /// A full pool, whose frames stand at the stored starts.

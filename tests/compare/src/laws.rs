@@ -1,7 +1,8 @@
 //! What `crates/host/specs/Laws.antt` states and `include/mezdaulk.h` says of
 //! the number that a call answered and of the memory lent to it.
 
-use mezdaulk::Choice;
+use crate::purses::{after_beat, after_choice, masked, purses};
+use mezdaulk::{Choice, Pace};
 use oracle::tally::Tally;
 use oracle::Refusal;
 
@@ -16,6 +17,7 @@ const ROOM: u8 = 23;
 const LENT: u8 = 24;
 const UNREACHED: u8 = 25;
 const IMPOSSIBLE: u8 = 26;
+const PACE: u8 = 27;
 
 fn is_given(number: u64) -> bool {
     number >> 32 & 1 == 1
@@ -39,6 +41,16 @@ fn block(number: u64) -> usize {
 
 fn function(number: u64) -> usize {
     (number >> 16 & 0xFF) as usize
+}
+
+/// The rule and the promotions of a beat's value.
+pub fn beat_in(value: u32) -> (u32, u32) {
+    (value & 0xFF, value >> 8)
+}
+
+/// Whether a run stopped at a beat: 15 to 19.
+pub fn run_stops(number: u64) -> bool {
+    stops(number) && refused(number) != PACE
 }
 
 /// Whether a list of choices stopped at one: 14 and more.
@@ -78,6 +90,22 @@ const CHOOSE: Call = call("choose", &[(1, 10)], &[(1, 3), (12, 21)]);
 pub const WHICH: Call = call("which", &[(0, 8)], &[(1, 3), (12, 13)]);
 const VALUES: Call = call("values", &[(0, 4), (OPEN, OPEN)], &[(1, 3), (12, 13)]);
 const SCHEDULE: Call = call("schedule", &[(0, 0)], &[(1, 3), (12, 21)]);
+const BEAT: Call = call("beat", &BEATS, &BEAT_NUMBERS);
+const RUN: Call = call("run", &[(0, 0)], &BEAT_NUMBERS);
+
+/// Rules 1 to 9 and no promotion, and 1 to 8 with 1 to 7: behind a join nothing
+/// is left to promote.
+const BEATS: [(u32, u32); 8] = [
+    (1, 9),
+    (0x101, 0x108),
+    (0x201, 0x208),
+    (0x301, 0x308),
+    (0x401, 0x408),
+    (0x501, 0x508),
+    (0x601, 0x608),
+    (0x701, 0x708),
+];
+const BEAT_NUMBERS: [(u8, u8); 4] = [(1, 3), (12, 13), (15, 19), (PACE, PACE)];
 
 /// The lengths of accepted tables: a function of one block that returns, up to
 /// the largest.
@@ -109,7 +137,7 @@ impl Call {
         match answer {
             Ok(value) => match self.values.iter().find(wide) {
                 Some((from, to)) => format!("{} gives {from} to {to}", self.name),
-                None => format!("{} gives {value}", self.name),
+                None => format!("{} gives {}", self.name, shown(value)),
             },
             Err(number) => format!("{} refuses {number}", self.name),
         }
@@ -122,6 +150,14 @@ impl Call {
         given
             .chain(refused.map(Err))
             .map(|answer| self.event(answer))
+    }
+}
+
+/// A value, a beat's in its parts.
+fn shown(value: u32) -> String {
+    match beat_in(value) {
+        (value, 0) => value.to_string(),
+        (rule, promotions) => format!("{rule} and {promotions} promotions"),
     }
 }
 
@@ -169,12 +205,22 @@ const STOPPED: &str = "law: the choice that stopped a schedule gets the same num
 const BEHIND: &str = "law: words behind main's values stay";
 const NO_VALUES: &str = "law: open values write nothing";
 const UNANSWERED: &str = "law: refused values write nothing";
+const PURSES: &str = "law: a choice leaves work and tokens to every thread that stays";
+const PACED: &str = "law: 27 exactly where N or C is out of range";
+const BEATEN: &str = "law: a beat deals work and tokens as is due";
+const AS_CHOICES: &str = "law: a beat is its step and promotions, but for work and tokens";
+const NO_MORE: &str = "law: no token is left behind a beat, or nothing to promote";
+const NO_BEAT: &str = "law: a beat is refused as its step, and leaves the words";
+const ALL_RUN: &str = "law: a given run made a step of each thread";
+const NONE_RUN: &str = "law: a run refused below 15 or with 27 made and wrote nothing";
+const RUN_STOPPED: &str = "law: the beat that stopped a run gets the same number";
+const FEW_MADE: &str = "law: a run made at most 7 promotions a step";
 const ONLY_READ: &str = "law: what is only read stays";
 const AROUND: &str = "law: memory around what is lent stays";
 const WRAPPED: &str = "law: the wrapper answers and writes the same";
 const OWNED: &str = "law: the wrapper's own pool answers and writes the same";
 
-const LAWS: [&str; 41] = [
+const LAWS: [&str; 51] = [
     UNUSED,
     PLACED,
     AT_BLOCK,
@@ -212,6 +258,16 @@ const LAWS: [&str; 41] = [
     BEHIND,
     NO_VALUES,
     UNANSWERED,
+    PURSES,
+    PACED,
+    BEATEN,
+    AS_CHOICES,
+    NO_MORE,
+    NO_BEAT,
+    ALL_RUN,
+    NONE_RUN,
+    RUN_STOPPED,
+    FEW_MADE,
     ONLY_READ,
     AROUND,
     WRAPPED,
@@ -221,12 +277,27 @@ const LAWS: [&str; 41] = [
 /// What must occur: every law, and every answer of every call.
 pub fn events() -> Vec<String> {
     let calls = [
-        READ, CHECK, DEPTH, TIDY, COMPLETE, START, CHOOSE, WHICH, VALUES, SCHEDULE,
+        READ, CHECK, DEPTH, TIDY, COMPLETE, START, CHOOSE, WHICH, VALUES, SCHEDULE, BEAT, RUN,
     ];
     LAWS.iter()
         .map(|law| law.to_string())
         .chain(calls.iter().flat_map(Call::events))
         .collect()
+}
+
+/// A beat that was put, and plain choices on a copy.
+pub struct Beaten<'a> {
+    pub pace: Pace,
+    pub thread: u32,
+    /// The words before and afterwards.
+    pub words: &'a [i32],
+    pub left: &'a [i32],
+    /// What a plain step got, whether as many promotions behind it as the beat
+    /// made were made too, the words of these, and what one more promotion got.
+    pub step: u64,
+    pub promoted: bool,
+    pub chosen: Vec<i32>,
+    pub next: u64,
 }
 
 /// What was asserted since it was last counted.
@@ -410,6 +481,69 @@ impl Laws {
                 let rule = (1..=9).contains(&value(number));
                 self.assert(STEPS, number, kind == 0 && rule);
             }
+        }
+        if is_given(number) {
+            let due = after_choice(words, choice.thread as usize, value(number));
+            self.assert(PURSES, number, purses(left) == due);
+        }
+    }
+
+    /// A beat beside plain choices.
+    pub fn beat(&mut self, table: &[u8], number: u64, beaten: &Beaten) {
+        self.answer(&BEAT, table, number);
+        let Beaten {
+            pace, words, left, ..
+        } = *beaten;
+        self.paced(number, pace, beaten.step);
+        if !is_given(number) {
+            let same = refused(number) == PACE || number == beaten.step;
+            self.assert(NO_BEAT, number, same && left == words);
+            return;
+        }
+        let (rule, promotions) = beat_in(value(number));
+        let stepped = answer_in(beaten.step) == Ok(rule);
+        let same = masked(left) == masked(&beaten.chosen);
+        self.assert(AS_CHOICES, number, stepped && beaten.promoted && same);
+        let thread = beaten.thread as usize;
+        let left = purses(left);
+        let due = after_beat(words, thread, pace, rule, promotions);
+        self.assert(BEATEN, number, due.is_some_and(|due| due.purses == left));
+        let none = left.get(thread).is_some_and(|own| own.tokens == 0);
+        let over = matches!(refused(beaten.next), 19..=21) && !is_given(beaten.next);
+        self.assert(NO_MORE, number, none || over);
+    }
+
+    /// A number that a beat or a run got, by its pace, and the number that a
+    /// step of some thread gets.
+    fn paced(&mut self, number: u64, pace: Pace, step: u64) {
+        let fits = (1..=65_535).contains(&pace.n) && (1..=255).contains(&pace.c);
+        let before = !is_given(step) && refused(step) < 14;
+        let due = !fits && !before;
+        let given = !is_given(number) && refused(number) == PACE;
+        self.assert(PACED, number, due == given);
+    }
+
+    /// How many steps and promotions were made, of how many threads; the number
+    /// that the beat gets that stopped it, put to the words left; and the number
+    /// that a step of some thread gets.
+    pub fn run(
+        &mut self,
+        table: &[u8],
+        number: u64,
+        (words, left): (&[i32], &[i32]),
+        (made, all): ([u64; 2], u64),
+        again: Option<u64>,
+        (pace, step): (Pace, u64),
+    ) {
+        self.answer(&RUN, table, number);
+        self.paced(number, pace, step);
+        self.assert(FEW_MADE, number, made[1] <= made[0].saturating_mul(7));
+        if is_given(number) {
+            self.assert(ALL_RUN, number, made[0] == all);
+        } else if run_stops(number) {
+            self.assert(RUN_STOPPED, number, again == Some(number));
+        } else {
+            self.assert(NONE_RUN, number, made == [0, 0] && left == words);
         }
     }
 

@@ -2,13 +2,15 @@
 //! copies of the memory and with the laws asserted, and then by the wrapper: on
 //! the memory lent, and where that is as long as a pool on a pool of its own.
 
-use crate::laws::{answer_in, stops, Call, Laws, CHECK, DEPTH, READ, WHICH};
+use crate::laws::{
+    answer_in, beat_in, run_stops, stops, Beaten, Call, Laws, CHECK, DEPTH, READ, WHICH,
+};
 use crate::lent::Lent;
-use mezdaulk::{lent, raw, Choice, Place, Pool, Refusal as Wrapped};
+use mezdaulk::{lent, raw, Choice, Pace, Place, Pool, Refusal as Wrapped};
 use oracle::gen::schedules::Choice as Pair;
 use oracle::machine::Machine;
 use oracle::tally::Tally;
-use oracle::Refusal;
+use oracle::{Pace as Wide, Refusal};
 use std::cell::{RefCell, RefMut};
 
 /// The library, and what was asserted of its answers since they were last
@@ -18,13 +20,14 @@ pub struct Library {
     laws: RefCell<Laws>,
 }
 
-/// What stands beside the memory lent; beside choices a step, which would be
-/// made.
+/// What stands beside the memory lent; beside choices a step and beside threads
+/// a thread, which would be made.
 const BYTE: u8 = 0xA5;
 const WORD: i32 = 0x5A5A_5A5A;
 const SCRATCH: u32 = 0x5A5A_5A5A;
 const COUNT: u64 = 0x5A5A_5A5A_5A5A_5A5A;
 const STEP: Choice = Choice::step(0);
+const THREAD: u32 = 0;
 
 // In every call of an exported function below, the pointers are valid for the
 // lengths beside them, and what is lent for writing overlaps nothing.
@@ -57,6 +60,12 @@ impl Library {
             self.can_step(table, &pool).map_err(number).err(),
             self.values(table, &pool, &mut room).map_err(number).err(),
             self.schedule(table, &mut pool, &[], &mut made)
+                .map_err(number)
+                .err(),
+            self.beat(table, &mut pool, NO_PACE, 0)
+                .map_err(number)
+                .err(),
+            self.run(table, &mut pool, NO_PACE, &[], &mut [0; 2])
                 .map_err(number)
                 .err(),
         ];
@@ -139,6 +148,58 @@ impl Library {
         _ = self.answer(number, wrapped, pool == words.left());
         number
     }
+
+    /// The number that a beat gets.
+    fn beaten(&self, table: &[u8], pool: &mut [i32], pace: Pace, thread: u32) -> u64 {
+        let (mut bytes, mut words) = (Lent::new(table, BYTE), Lent::new(pool, WORD));
+        let (t, p) = (bytes.pointer(), words.pointer());
+        let number =
+            unsafe { raw::mezdaulk_beat(t, table.len(), p, pool.len(), thread, pace.n, pace.c) };
+        let beaten = plain_choices(table, (pool, words.left()), pace, thread, number);
+        self.laws().beat(table, number, &beaten);
+        let around = bytes.guarded() && words.guarded();
+        self.laws().memory(number, bytes.left() == table, around);
+        self.owned(number, pool, words.left(), |own| {
+            (own.beat(table, pace, thread).map(beat_number), true)
+        });
+        let wrapped = lent::beat(table, pool, pace, thread).map(beat_number);
+        _ = self.answer(number, wrapped, pool == words.left());
+        number
+    }
+}
+
+/// The plain choices that a beat is: a step, as many promotions as the beat's
+/// number says, and one more on a copy.
+fn plain_choices<'a>(
+    table: &[u8],
+    (words, left): (&'a [i32], &'a [i32]),
+    pace: Pace,
+    thread: u32,
+    number: u64,
+) -> Beaten<'a> {
+    let put = |words: &mut [i32], choice: Choice| {
+        let (pool, count) = (words.as_mut_ptr(), words.len());
+        let Choice { kind, thread } = choice;
+        unsafe { raw::mezdaulk_choose(table.as_ptr(), table.len(), pool, count, kind, thread) }
+    };
+    let mut chosen = words.to_vec();
+    let step = put(&mut chosen, Choice::step(thread));
+    let (_, promotions) = answer_in(number).map_or((0, 0), beat_in);
+    let promoted = (0..promotions.min(8)).all(|_| {
+        let promotion = put(&mut chosen, Choice::promote(thread));
+        answer_in(promotion).is_ok()
+    });
+    let next = put(&mut chosen.clone(), Choice::promote(thread));
+    Beaten {
+        pace,
+        thread,
+        words,
+        left,
+        step,
+        promoted,
+        chosen,
+        next,
+    }
 }
 
 /// The wrapper's refusal as the second implementation writes it.
@@ -159,6 +220,10 @@ fn rule_number(rule: mezdaulk::Rule) -> u32 {
     rule.number().into()
 }
 
+fn beat_number(beat: mezdaulk::Beat) -> u32 {
+    rule_number(beat.rule) + 256 * beat.promotions
+}
+
 fn thread_number(thread: Option<u32>) -> u32 {
     thread.unwrap_or(8)
 }
@@ -174,6 +239,21 @@ fn narrow((kind, thread): Pair) -> Choice {
         kind: number(kind),
         thread: number(thread),
     }
+}
+
+/// A pace out of range.
+const NO_PACE: Wide = Wide { n: 0, c: 0 };
+
+/// A pace and a thread, which are within 32 bits.
+fn narrow_pace(pace: Wide) -> Pace {
+    Pace {
+        n: narrow_thread(pace.n),
+        c: narrow_thread(pace.c),
+    }
+}
+
+fn narrow_thread(thread: u64) -> u32 {
+    u32::try_from(thread).expect("beats are cut to 32 bits")
 }
 
 impl Machine for Library {
@@ -333,6 +413,73 @@ impl Machine for Library {
         });
         let (wrapped_made, wrapped) = lent::schedule(table, pool, &choices);
         let same_words = pool == words.left() && wrapped_made as u64 == *made;
+        self.answer(number, wrapped.map(|()| 0), same_words)
+            .map(|_| ())
+    }
+
+    fn beat(
+        &self,
+        table: &[u8],
+        pool: &mut [i32],
+        pace: Wide,
+        thread: u64,
+    ) -> Result<(u8, u64), Refusal> {
+        let number = self.beaten(table, pool, narrow_pace(pace), narrow_thread(thread));
+        let (rule, promotions) = beat_in(answer_in(number)?);
+        Ok((rule as u8, promotions.into()))
+    }
+
+    fn run(
+        &self,
+        table: &[u8],
+        pool: &mut [i32],
+        pace: Wide,
+        threads: &[u64],
+        made: &mut [u64; 2],
+    ) -> Result<(), Refusal> {
+        let pace = narrow_pace(pace);
+        let threads: Vec<u32> = threads.iter().copied().map(narrow_thread).collect();
+        let (mut bytes, mut words) = (Lent::new(table, BYTE), Lent::new(pool, WORD));
+        let (mut list, mut counts) = (Lent::new(&threads, THREAD), Lent::new(&made[..], COUNT));
+        let (t, p) = (bytes.pointer(), words.pointer());
+        let (l, c) = (list.pointer(), counts.pointer());
+        let number = unsafe {
+            raw::mezdaulk_run(
+                t,
+                table.len(),
+                p,
+                pool.len(),
+                pace.n,
+                pace.c,
+                l,
+                threads.len(),
+                c,
+            )
+        };
+        made.copy_from_slice(counts.left());
+        let stopped = threads.get(made[0] as usize).filter(|_| run_stops(number));
+        let again =
+            stopped.map(|&thread| self.beaten(table, &mut words.left().to_vec(), pace, thread));
+        let step = plain_choices(table, (pool, words.left()), pace, THREAD, number).step;
+        let all = threads.len() as u64;
+        self.laws().run(
+            table,
+            number,
+            (pool, words.left()),
+            (*made, all),
+            again,
+            (pace, step),
+        );
+        let only_read = bytes.left() == table && list.left() == threads;
+        let around = bytes.guarded() && words.guarded() && list.guarded() && counts.guarded();
+        self.laws().memory(number, only_read, around);
+        let same_made = |ran: mezdaulk::Ran| [ran.steps, ran.promotions] == *made;
+        self.owned(number, pool, words.left(), |own| {
+            let (ran, answer) = own.run(table, pace, &threads);
+            (answer.map(|()| 0), same_made(ran))
+        });
+        let (ran, wrapped) = lent::run(table, pool, pace, &threads);
+        let same_words = pool == words.left() && same_made(ran);
         self.answer(number, wrapped.map(|()| 0), same_words)
             .map(|_| ())
     }

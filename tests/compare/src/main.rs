@@ -14,19 +14,23 @@ mod brief;
 mod laws;
 mod lent;
 mod library;
+mod purses;
 mod runs;
 mod sporks;
 mod starts;
+mod tokens;
 mod twins;
 
 use library::Library;
+use oracle::beats::beat;
 use oracle::encode::encode;
 use oracle::gen::brief::{brief, Kind as BriefKind};
 use oracle::gen::calls::{self, Calling};
 use oracle::gen::faults::{self, Kind};
 use oracle::gen::loops::looping;
-use oracle::gen::{notes, programs, scenario, Source};
-use oracle::machine::{differences, tables_differ, Machine};
+use oracle::gen::{notes, programs, scenario, Scenario, Source};
+use oracle::machine::{differences, every_beat, tables_differ, Machine};
+use oracle::pool::Pool;
 use oracle::rng::Rng;
 use oracle::table::{Program, TABLE_MAX};
 use oracle::tally::Tally;
@@ -47,6 +51,7 @@ fn main() -> ExitCode {
     twins::check_stored(&mut tally, &library);
     brief::check_stored(&mut tally, &library);
     starts::check_full(&mut tally, &library);
+    tokens::check_rich(&mut tally, &library);
     for round in 0..count {
         tally.round = round;
         let mut rng = Rng::of_round(seed, round);
@@ -54,10 +59,13 @@ fn main() -> ExitCode {
         let program = programs::accepted(&mut rng);
         compare_faults(&mut tally, &library, &mut rng, &program);
         runs::check_run(&mut tally, &library, &mut rng, &program);
+        tokens::check_tokens(&mut tally, &library, &mut rng, &program);
         note_program(&mut tally, &program);
         let calling = compare_calls(&mut tally, &library, &mut rng);
         let looped = looping(&mut rng);
         runs::check_run(&mut tally, &library, &mut rng, &looped);
+        tokens::check_tokens(&mut tally, &library, &mut rng, &looped);
+        tokens::check_crowded(&mut tally, &library, &mut rng, &looped);
         let one = if round.is_multiple_of(2) {
             program
         } else {
@@ -85,6 +93,8 @@ fn events() -> Vec<String> {
     events.extend(watch::COMPLETED.map(String::from));
     events.extend(Source::ALL.map(|source| format!("scenario {source:?}")));
     events.extend(notes().into_iter().map(String::from));
+    events.extend(watch::BEATS.map(String::from));
+    events.extend(tokens::EVENTS.map(String::from));
     let others = [FULL_SIZE, PAIR, LONG, starts::EVENT];
     events.extend(laws::events());
     events.extend(sporks::events());
@@ -103,6 +113,7 @@ fn compare_scenario(tally: &mut Tally, library: &Library, rng: &mut Rng) {
     for note in &input.notes {
         tally.event(note);
     }
+    note_beats(tally, &input);
     if input.table.len() == TABLE_MAX {
         tally.event(FULL_SIZE);
     }
@@ -147,6 +158,23 @@ fn compare_faults(tally: &mut Tally, library: &Library, rng: &mut Rng, program: 
 fn compare_table(tally: &mut Tally, library: &Library, table: &[u8]) {
     let found = tables_differ(library, table);
     tally.expect(found.is_empty(), || format!("{found:?}: {table:02x?}"));
+}
+
+/// What the beats of a scenario are like.
+fn note_beats(tally: &mut Tally, input: &Scenario) {
+    let Ok(program) = oracle::read(&input.table) else {
+        return;
+    };
+    let Ok(pool) = Pool::from_words(&program, &input.words) else {
+        return;
+    };
+    for (pace, thread) in every_beat(input) {
+        if let Ok(beat) = beat(&program, &mut pool.clone(), pace, thread) {
+            for event in watch::beat(&beat, pace) {
+                tally.event(event);
+            }
+        }
+    }
 }
 
 fn note_program(tally: &mut Tally, program: &Program) {

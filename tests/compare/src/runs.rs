@@ -2,12 +2,15 @@
 //! states it, what the depth of a table says beside it, and that a child's
 //! arguments are those of its spork, on random runs of accepted tables. The
 //! second implementation chooses and makes the same run, and every answer is
-//! compared with its own.
+//! compared with its own. A beat counts as its step and then its promotions.
 
-use crate::sporks::{Put, Sporks};
+use crate::purses::{masked, purses};
+use crate::sporks::{Part, Put, Sporks};
+use oracle::beats::{beat_as, Pace};
 use oracle::encode::encode;
+use oracle::gen::beats::{guided_run, guided_thread, no_pace, quick_pace};
 use oracle::gen::schedules::{guided_choice, guided_schedule, Choice, Order, Policy};
-use oracle::machine::Machine;
+use oracle::machine::{pace_within, Machine};
 use oracle::pool::{thread_start, Pool, MAX_FRAMES, MAX_THREADS};
 use oracle::rng::Rng;
 use oracle::rules::{self, ended, steppable, Rule, PROMOTE, STEP};
@@ -17,8 +20,23 @@ use oracle::watch::{self, join, join_event};
 use oracle::{Refusal, POOL_WORDS};
 
 /// What must occur, by name.
-pub const EVENTS: [&str; 10] = [
-    RETURNED, LONG, FULL, REFUSED, WAITS, WAITS_FULL, ROOMY, AT_DEPTH, DEEP, CYCLIC,
+pub const EVENTS: [&str; 16] = [
+    RETURNED,
+    LONG,
+    FULL,
+    REFUSED,
+    WAITS,
+    WAITS_FULL,
+    ROOMY,
+    AT_DEPTH,
+    DEEP,
+    CYCLIC,
+    BEAT,
+    BEAT_REFUSED,
+    BEAT_FULL,
+    NO_PACE,
+    JOINED,
+    SEVERAL,
 ];
 
 const RETURNED: &str = "run that returned";
@@ -32,6 +50,13 @@ const ROOMY: &str = "run at a depth of at most 8";
 const AT_DEPTH: &str = "run with as many frames as the depth, 2 to 8";
 const DEEP: &str = "run that gets 18 at a depth above 8";
 const CYCLIC: &str = "run that gets 18 where the depth is 22";
+
+const BEAT: &str = "run with a beat";
+const BEAT_REFUSED: &str = "run with a refused beat";
+const BEAT_FULL: &str = "run with a beat that gets 18";
+const NO_PACE: &str = "run with a beat that gets 27";
+const JOINED: &str = "run with a beat that joins";
+const SEVERAL: &str = "run with a beat of several promotions";
 
 /// A run of an accepted table on a machine.
 struct Run<'a> {
@@ -82,10 +107,10 @@ pub fn check_run(tally: &mut Tally, machine: &dyn Machine, rng: &mut Rng, progra
             0 => 2_000,
             _ => rng.one_of([1, 10, 60, 300]),
         };
-        if rng.chance(25) {
-            run.schedule(tally, rng, length);
-        } else {
-            run.one_by_one(tally, rng, length);
+        match rng.below(20) {
+            0..=3 => run.schedule(tally, rng, length),
+            4..=6 => run.run(tally, rng, length.min(100)),
+            _ => run.one_by_one(tally, rng, length),
         }
         run.stands(tally);
     }
@@ -137,6 +162,7 @@ impl Run<'_> {
     /// Choices one after another.
     fn one_by_one(&mut self, tally: &mut Tally, rng: &mut Rng, length: usize) {
         let policy = policy(rng);
+        let beating = rng.one_of([0, 0, 5, 15]);
         let mut refused = false;
         let mut left = length;
         while left > 0 {
@@ -147,10 +173,14 @@ impl Run<'_> {
                 left = left.min(3);
             }
             left -= 1;
+            if rng.chance(beating) {
+                self.single_beat(tally, rng);
+                continue;
+            }
             let choice = guided_choice(rng, self.program, &self.pool, policy);
             let choice = self.within(choice);
             let mut words = self.words.clone();
-            let answer = self.put(tally, choice, &mut words, false);
+            let answer = self.put(tally, choice, &mut words, Part::Single);
             self.words = words;
             self.check_answer(tally, choice, answer);
             if answer.is_ok() && refused {
@@ -182,7 +212,8 @@ impl Run<'_> {
         let mut due_made = 0;
         let mut due = Ok(());
         for &choice in &choices {
-            due = self.put(tally, choice, &mut words, true).map(|_| ());
+            let part = Part::Schedule;
+            due = self.put(tally, choice, &mut words, part).map(|_| ());
             if due.is_err() {
                 break;
             }
@@ -201,6 +232,147 @@ impl Run<'_> {
         }
     }
 
+    /// A beat of any thread, some by a pace out of range.
+    fn single_beat(&mut self, tally: &mut Tally, rng: &mut Rng) {
+        let pace = if rng.chance(4) {
+            pace_within(self.machine, no_pace(rng))
+        } else {
+            quick_pace(rng)
+        };
+        let (_, thread) = self.within((STEP, guided_thread(rng, self.program, &self.pool, 10)));
+        let mut words = self.words.clone();
+        let answer = self.beat(tally, pace, thread, &mut words, Part::Beat);
+        self.words = words;
+        self.check_beat(tally, pace, thread, answer);
+    }
+
+    /// Beats as one run, up to and with the first refused; and one by one on a
+    /// copy, which must end in the same words.
+    fn run(&mut self, tally: &mut Tally, rng: &mut Rng, length: usize) {
+        let (pace, refused) = (quick_pace(rng), rng.chance(50));
+        let threads: Vec<u64> = guided_run(rng, self.program, &self.pool, pace, length, refused)
+            .into_iter()
+            .map(|thread| self.within((STEP, thread)).1)
+            .collect();
+        let mut words = self.words.clone();
+        let mut made = [u64::MAX; 2];
+        let answer = self
+            .machine
+            .run(&self.table, &mut self.words, pace, &threads, &mut made);
+        let mut due_made = [0, 0];
+        let mut due = Ok(());
+        for &thread in &threads {
+            match self.beat(tally, pace, thread, &mut words, Part::Run) {
+                Ok((_, promotions)) => due_made = [due_made[0] + 1, due_made[1] + promotions],
+                Err(refusal) => {
+                    due = Err(refusal);
+                    break;
+                }
+            }
+        }
+        tally.expect(words == self.words, || {
+            format!("a run leaves other words than {pace:?}, {threads:?}")
+        });
+        tally.expect((made, answer) == (due_made, due), || {
+            format!("{made:?} made, {answer:?} given; {due_made:?}, {due:?} is right")
+        });
+        match (answer, threads.get(made[0] as usize)) {
+            (Ok(()), None) => {}
+            (Err(refusal), Some(&thread)) => {
+                self.check_beat(tally, pace, thread, Err(refusal));
+            }
+            _ => tally.expect(false, || format!("{made:?} made, {answer:?} given")),
+        }
+    }
+
+    /// Puts a beat of the run to words and to the second implementation's pool.
+    /// Its step and its promotions are put one by one to copies too, and
+    /// followed; but for work and tokens they leave the same.
+    fn beat(
+        &mut self,
+        tally: &mut Tally,
+        pace: Pace,
+        thread: u64,
+        words: &mut [i32],
+        part: Part,
+    ) -> Result<(u8, u64), Refusal> {
+        let mut chosen = words.to_vec();
+        let mut pool = self.pool.clone();
+        let number = Some(self.sporks.next());
+        let beat = beat_as(self.program, &mut pool, pace, thread, number);
+        let due = beat
+            .as_ref()
+            .map(|beat| (beat.rule.number(), beat.ledger.paid()))
+            .map_err(|number| Refusal::plain(*number));
+        let answer = self.machine.beat(&self.table, words, pace, thread);
+        tally.expect(answer == due, || {
+            format!("{pace:?} {thread} gets {answer:?}, {due:?} is right")
+        });
+        if !pace.fits() {
+            return answer;
+        }
+        let step = self.put(tally, (STEP, thread), &mut chosen, part);
+        tally.expect(step == answer.map(|(rule, _)| rule), || {
+            format!("{answer:?} of a beat, {step:?} of its step")
+        });
+        for _ in 0..answer.map_or(0, |(_, promotions)| promotions) {
+            let promotion = self.put(tally, (PROMOTE, thread), &mut chosen, part);
+            tally.expect(promotion.is_ok(), || {
+                format!("{answer:?} of a beat, {promotion:?} of a promotion")
+            });
+        }
+        tally.expect(masked(&chosen) == masked(words), || {
+            format!("a beat leaves {words:?}, its choices {chosen:?}")
+        });
+        if answer.is_ok() {
+            self.ends(tally, thread, words);
+        }
+        self.pool = pool;
+        if let Ok(beat) = &beat {
+            for event in watch::beat(beat, pace) {
+                tally.event(event);
+            }
+        }
+        answer
+    }
+
+    /// No token is left behind a beat, or the next promotion is refused: by 20
+    /// or 21.
+    fn ends(&self, tally: &mut Tally, thread: u64, words: &[i32]) {
+        let left = purses(words)[thread as usize].tokens;
+        let mut copy = words.to_vec();
+        let next = self.machine.choose(&self.table, &mut copy, PROMOTE, thread);
+        let over = matches!(next, Err(refusal) if matches!(refusal.number, 20 | 21));
+        tally.expect(left == 0 || over, || {
+            format!("{left} tokens are left, and {next:?}")
+        });
+    }
+
+    /// A beat of a run makes a rule of a step, or is refused as a step may be;
+    /// 27 comes exactly by a pace out of range.
+    fn check_beat(
+        &self,
+        tally: &mut Tally,
+        pace: Pace,
+        thread: u64,
+        answer: Result<(u8, u64), Refusal>,
+    ) {
+        let refused = answer.map_err(|refusal| refusal.number).err();
+        if !pace.fits() {
+            tally.expect(refused == Some(27), || format!("{pace:?} gets {answer:?}"));
+            tally.event(NO_PACE);
+            return;
+        }
+        self.check_answer(tally, (STEP, thread), answer.map(|(rule, _)| rule));
+        tally.event(match answer {
+            Ok((9, _)) => JOINED,
+            Ok((_, 2..)) => SEVERAL,
+            Ok(_) => BEAT,
+            Err(_) if refused == Some(18) => BEAT_FULL,
+            Err(_) => BEAT_REFUSED,
+        });
+    }
+
     /// A choice cut to what the machine takes.
     fn within(&self, (kind, thread): Choice) -> Choice {
         let widest = self.machine.widest();
@@ -214,7 +386,7 @@ impl Run<'_> {
         tally: &mut Tally,
         choice: Choice,
         words: &mut [i32],
-        scheduled: bool,
+        part: Part,
     ) -> Result<u8, Refusal> {
         check_join(tally, self.program, &mut self.pool, choice);
         let number = Some(self.sporks.next());
@@ -227,7 +399,7 @@ impl Run<'_> {
             answer,
             before: &before,
             after: words,
-            scheduled,
+            part,
         };
         self.sporks.follow(tally, &put, &self.pool);
         answer

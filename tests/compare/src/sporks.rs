@@ -21,8 +21,9 @@ pub fn events() -> Vec<String> {
     events
 }
 
-const EVENTS: [&str; 12] = [
+const EVENTS: [&str; 14] = [
     AGAIN, TWICE, FOUR, BENEATH, ABOVE, LATE, RETURNED, ORDER, CHILDS, JOINED, SINGLE, SCHEDULED,
+    BEATEN, RUN,
 ];
 
 const AGAIN: &str = "promotion of a call opened before in its frame, with other arguments";
@@ -37,6 +38,8 @@ const CHILDS: &str = "promotion of a child's call";
 const JOINED: &str = "promotion in a frame that has joined a child";
 const SINGLE: &str = "promotion by a single choice";
 const SCHEDULED: &str = "promotion within a schedule";
+const BEATEN: &str = "promotion by a beat";
+const RUN: &str = "promotion by a beat within a run of them";
 
 fn child_event(arguments: usize) -> String {
     format!("child of {arguments} arguments")
@@ -51,8 +54,16 @@ pub struct Put<'a> {
     pub answer: Result<u8, Refusal>,
     pub before: &'a [i32],
     pub after: &'a [i32],
-    /// Whether it is part of a schedule.
-    pub scheduled: bool,
+    pub part: Part,
+}
+
+/// What a choice is part of.
+#[derive(Clone, Copy, Debug, PartialEq)]
+pub enum Part {
+    Single,
+    Schedule,
+    Beat,
+    Run,
 }
 
 /// A run from a fresh pool, followed choice by choice.
@@ -263,8 +274,10 @@ impl Sporks {
             self.openers.lists.iter().enumerate().any(older),
             parent > 0,
             past.joined,
-            !put.scheduled,
-            put.scheduled,
+            put.part == Part::Single,
+            put.part == Part::Schedule,
+            put.part == Part::Beat,
+            put.part == Part::Run,
         ];
         for (event, held) in EVENTS.into_iter().zip(holds) {
             if held {

@@ -1,7 +1,9 @@
 //! A table, its tidy table, and other tables of the same job: what the library
 //! writes of each, and runs of a table beside its tidy table.
 
+use oracle::beats::beat;
 use oracle::encode::encode;
+use oracle::gen::beats::{guided_thread, quick_pace};
 use oracle::gen::schedules::{guided_choice, guided_schedule, Choice, Policy};
 use oracle::gen::twins::twin;
 use oracle::machine::{unwritten, Machine};
@@ -16,7 +18,7 @@ use oracle::watch;
 use oracle::{Refusal, POOL_WORDS};
 
 /// What must occur, by name.
-pub const EVENTS: [&str; 6] = [STORED, CASE, TWIN, OTHER_TWIN, BESIDE, REFUSED];
+pub const EVENTS: [&str; 7] = [STORED, CASE, TWIN, OTHER_TWIN, BESIDE, REFUSED, BEATEN];
 
 const STORED: &str = "stored tidy table";
 const CASE: &str = "table of a stored case, tidied";
@@ -24,6 +26,7 @@ const TWIN: &str = "two tables of one job, tidied to one";
 const OTHER_TWIN: &str = "two tables of one job of different lengths";
 const BESIDE: &str = "run beside the tidy table's that returned";
 const REFUSED: &str = "run beside the tidy table's with a refused choice";
+const BEATEN: &str = "run beside the tidy table's with promotions by beats";
 
 /// The stored tidy tables, and the tables of the stored cases, accepted and
 /// refused.
@@ -141,7 +144,7 @@ impl Beside<'_> {
         one
     }
 
-    /// Choices from fresh pools, one by one and then as a schedule.
+    /// Choices from fresh pools, one by one, beats, and then a schedule.
     fn run(&mut self, tally: &mut Tally, rng: &mut Rng) {
         let started = self.both(tally, |machine, table, words| machine.start(table, words));
         tally.expect(started.is_ok(), || format!("no start: {started:?}"));
@@ -156,6 +159,19 @@ impl Beside<'_> {
                 tally.event(REFUSED);
             }
             _ = rules::choose(self.program, &mut self.pool, kind, thread);
+        }
+        self.compare(tally);
+        for _ in 0..rng.one_of([0, 1, 4]) {
+            let pace = quick_pace(rng);
+            let thread = guided_thread(rng, self.program, &self.pool, 10);
+            let (_, thread) = self.within((STEP, thread));
+            let answer = self.both(tally, |machine, table, words| {
+                machine.beat(table, words, pace, thread)
+            });
+            if matches!(answer, Ok((_, 1..))) {
+                tally.event(BEATEN);
+            }
+            _ = beat(self.program, &mut self.pool, pace, thread);
         }
         self.compare(tally);
         let refused = rng.chance(50);

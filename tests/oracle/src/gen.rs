@@ -1,6 +1,7 @@
 //! Generators of tables, pools and schedules; all are functions over a seeded
 //! generator, so that another implementation can be put to the same inputs.
 
+pub mod beats;
 pub mod brief;
 pub mod bytes;
 pub mod calls;

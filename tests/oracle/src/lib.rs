@@ -4,6 +4,7 @@
 //! threads; every call decodes, works on the trees and encodes again. A refusal
 //! leaves the lent words as they were.
 
+pub mod beats;
 pub mod check;
 pub mod complete;
 pub mod depth;
@@ -25,6 +26,7 @@ pub mod tally;
 pub mod tidy;
 pub mod watch;
 
+pub use beats::Pace;
 pub use check::check;
 pub use complete::complete;
 pub use depth::depth;
@@ -88,6 +90,37 @@ pub fn schedule(
     }
     pool.copy_from_slice(&tree.to_words());
     (made, refusal)
+}
+
+/// Makes one beat: the step's rule, and how many promotions were made.
+pub fn beat(
+    table: &[u8],
+    pool: &mut [i32],
+    pace: Pace,
+    thread: u64,
+) -> Result<(Rule, u64), Refusal> {
+    let (program, mut tree) = decode(table, pool)?;
+    let beat = beats::beat(&program, &mut tree, pace, thread).map_err(Refusal::plain)?;
+    pool.copy_from_slice(&tree.to_words());
+    Ok((beat.rule, beat.ledger.paid()))
+}
+
+/// Makes beats of threads up to the first refused; gives how many steps and
+/// promotions were made and the refusal, if any.
+pub fn run(
+    table: &[u8],
+    pool: &mut [i32],
+    pace: Pace,
+    threads: &[u64],
+) -> ([u64; 2], Option<Refusal>) {
+    let (program, mut tree) = match decode(table, pool) {
+        Ok(decoded) => decoded,
+        Err(refusal) => return ([0, 0], Some(refusal)),
+    };
+    let (account, refusal) = beats::run(&program, &mut tree, pace, threads);
+    pool.copy_from_slice(&tree.to_words());
+    let made = [account.steps, account.promotions];
+    (made, refusal.map(Refusal::plain))
 }
 
 /// The program and the pool that a table and words hold; 1 to 3, 12 and 13.

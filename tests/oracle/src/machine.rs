@@ -1,5 +1,6 @@
 //! Another implementation put to the same inputs as this one.
 
+use crate::beats::Pace;
 use crate::complete::{completed, LENT, OUTPUT, SCRATCH};
 use crate::encode::encode;
 use crate::gen::schedules::Choice;
@@ -42,7 +43,25 @@ pub trait Machine {
         made: &mut u64,
     ) -> Result<(), Refusal>;
 
-    /// The largest kind or thread the implementation takes.
+    /// The step's rule, and how many promotions were made.
+    fn beat(
+        &self,
+        table: &[u8],
+        pool: &mut [i32],
+        pace: Pace,
+        thread: u64,
+    ) -> Result<(u8, u64), Refusal>;
+    /// How many steps and promotions were made is written either way.
+    fn run(
+        &self,
+        table: &[u8],
+        pool: &mut [i32],
+        pace: Pace,
+        threads: &[u64],
+        made: &mut [u64; 2],
+    ) -> Result<(), Refusal>;
+
+    /// The largest kind, thread, N or C the implementation takes.
     fn widest(&self) -> u64 {
         u64::MAX
     }
@@ -119,6 +138,30 @@ impl Machine for Oracle {
         *made = count as u64;
         refusal.map_or(Ok(()), Err)
     }
+
+    fn beat(
+        &self,
+        table: &[u8],
+        pool: &mut [i32],
+        pace: Pace,
+        thread: u64,
+    ) -> Result<(u8, u64), Refusal> {
+        let (rule, promotions) = crate::beat(table, pool, pace, thread)?;
+        Ok((rule.number(), promotions))
+    }
+
+    fn run(
+        &self,
+        table: &[u8],
+        pool: &mut [i32],
+        pace: Pace,
+        threads: &[u64],
+        made: &mut [u64; 2],
+    ) -> Result<(), Refusal> {
+        let (counts, refusal) = crate::run(table, pool, pace, threads);
+        *made = counts;
+        refusal.map_or(Ok(()), Err)
+    }
 }
 
 /// Puts a scenario to every call of a machine and of the oracle; gives each
@@ -136,6 +179,10 @@ pub fn differences(machine: &dyn Machine, input: &Scenario) -> Vec<String> {
         found.extend(choice_differs(machine, input, choice));
     }
     found.extend(schedule_differs(machine, input, &choices));
+    for &(pace, thread) in &every_beat(input) {
+        found.extend(beat_differs(machine, input, pace, thread));
+    }
+    found.extend(run_differs(machine, input));
     found
 }
 
@@ -281,7 +328,7 @@ fn items_differ<T: PartialEq + std::fmt::Debug>(
 
 /// What stands in the room for main's values before it is lent.
 const ROOM: [i32; 4] = [-11, 12, -13, 14];
-/// What stands in the place of the number made before it is lent.
+/// What stands in the place of a number made before it is lent.
 const UNWRITTEN: u64 = u64::MAX - 1;
 
 /// Main's values, and that a thread said to step can step.
@@ -320,6 +367,52 @@ fn within(machine: &dyn Machine, choices: &[Choice]) -> Vec<Choice> {
         .iter()
         .map(|&(kind, thread)| (kind.min(widest), thread.min(widest)))
         .collect()
+}
+
+/// The beats of a scenario, and one of every thread there may be, by the pace
+/// of its run.
+pub fn every_beat(input: &Scenario) -> Vec<(Pace, u64)> {
+    let each = (0..=8).map(|thread| (input.run.0, thread));
+    input.beats.iter().copied().chain(each).collect()
+}
+
+/// A pace cut to what the machine takes.
+pub fn pace_within(machine: &dyn Machine, pace: Pace) -> Pace {
+    let widest = machine.widest();
+    Pace {
+        n: pace.n.min(widest),
+        c: pace.c.min(widest),
+    }
+}
+
+fn beat_differs(
+    machine: &dyn Machine,
+    input: &Scenario,
+    pace: Pace,
+    thread: u64,
+) -> Option<String> {
+    let (pace, thread) = (pace_within(machine, pace), thread.min(machine.widest()));
+    let what = format!("beat {pace:?} {thread}");
+    let mut given = input.words.clone();
+    let mut right = input.words.clone();
+    let answer = machine.beat(&input.table, &mut given, pace, thread);
+    let due = Oracle.beat(&input.table, &mut right, pace, thread);
+    differs(&what, answer, due).or_else(|| items_differ(&what, &given, &right))
+}
+
+fn run_differs(machine: &dyn Machine, input: &Scenario) -> Option<String> {
+    let pace = pace_within(machine, input.run.0);
+    let widest = machine.widest();
+    let threads: Vec<u64> = input.run.1.iter().map(|&t| t.min(widest)).collect();
+    let what = format!("run {pace:?}");
+    let mut given = input.words.clone();
+    let mut right = input.words.clone();
+    let (mut given_made, mut right_made) = ([UNWRITTEN; 2], [UNWRITTEN; 2]);
+    let answer = machine.run(&input.table, &mut given, pace, &threads, &mut given_made);
+    let due = Oracle.run(&input.table, &mut right, pace, &threads, &mut right_made);
+    differs(&what, answer, due)
+        .or_else(|| differs(&what, given_made, right_made))
+        .or_else(|| items_differ(&what, &given, &right))
 }
 
 fn choice_differs(

@@ -1,9 +1,11 @@
-//! What is worth counting: the shapes of programs, joins, and what pools reach.
+//! What is worth counting: the shapes of programs, joins, what pools reach, and
+//! what beats are like.
 
+use crate::beats::{Beat, Entry, Pace};
 use crate::depth;
 use crate::graph::{cyclic, jumps, live, Graph};
 use crate::pool::{Pool, Thread, MAX_CALLS, MAX_FRAMES, MAX_THREADS};
-use crate::rules::{ended, transfer};
+use crate::rules::{ended, transfer, Rule};
 use crate::table::{
     Function, Name, Program, Transfer, BRIEF_MAX, MAX_BLOCKS, MAX_FUNCTIONS, MAX_NESTING,
     MAX_SPAWNS,
@@ -237,4 +239,87 @@ pub fn reached(pool: &Pool) -> Vec<&'static str> {
         }
     }
     events
+}
+
+/// What beats are like, by name; how many promotions they make is apart.
+pub const BEATS: [&str; 19] = [
+    "beat that earns nothing",
+    "beat that earns as its work comes to N",
+    "beat that earns with more work than N",
+    "beat that earns by its first step, at N 1",
+    "join that hands back tokens",
+    "join that hands back no token",
+    "join that loses work",
+    "tokens cut as a joined child's arrive",
+    "tokens cut as C arrive",
+    "tokens cut as both arrive",
+    "promotion of tokens that had come before",
+    "promotions until no token is left",
+    "promotions that 20 ends",
+    "promotions that 21 ends",
+    "promotions that 19 ends",
+    "half of an even rest moves",
+    "half of an odd rest moves",
+    "promotion that moves no token",
+    "tokens that stay for later",
+];
+
+/// What a beat was like.
+pub fn beat(beat: &Beat, pace: Pace) -> Vec<&'static str> {
+    let entries = &beat.ledger.entries;
+    let earned = entries.contains(&Entry::Came(pace.c));
+    let work = u64::from(beat.worked) + 1;
+    let joined = beat.rule == Rule::Prom;
+    let back = |tokens: &u64| entries.contains(&Entry::HandedBack(*tokens));
+    let cut = |arrival: fn(&Entry) -> bool| {
+        let dropped = |pair: &[Entry]| matches!(pair[1], Entry::Dropped(_));
+        entries
+            .windows(2)
+            .any(|pair| arrival(&pair[0]) && dropped(pair))
+    };
+    let cut_back = cut(|entry| matches!(entry, Entry::HandedBack(_)));
+    let cut_came = cut(|entry| matches!(entry, Entry::Came(_)));
+    let (paid, left) = (beat.ledger.paid(), beat.ledger.balance());
+    let rests = rests(beat);
+    let holds = [
+        !earned,
+        earned && work == pace.n,
+        earned && work > pace.n,
+        earned && pace.n == 1 && work == 1,
+        joined && !back(&0),
+        joined && back(&0),
+        beat.lost > 0,
+        cut_back,
+        cut_came,
+        cut_back && cut_came,
+        paid > 0 && !earned && !joined,
+        paid > 0 && left == 0,
+        beat.stopped == Some(20),
+        beat.stopped == Some(21),
+        beat.stopped == Some(19),
+        rests.iter().any(|rest| rest % 2 == 0 && *rest > 0),
+        rests.iter().any(|rest| rest % 2 == 1 && *rest > 1),
+        entries.contains(&Entry::Moved(0)),
+        left > 0,
+    ];
+    let held = BEATS.into_iter().zip(holds);
+    held.filter_map(|(event, held)| held.then_some(event))
+        .collect()
+}
+
+/// What was left after each token that paid.
+fn rests(beat: &Beat) -> Vec<u64> {
+    let mut ledger = beat.ledger.clone();
+    let mut rests = Vec::new();
+    while let Some(entry) = ledger.entries.pop() {
+        if let Entry::Moved(_) = entry {
+            rests.push(ledger.balance());
+        }
+    }
+    rests
+}
+
+/// The name of the event of a beat's promotions.
+pub fn promotions_event(promotions: u64) -> String {
+    format!("beat of {promotions} promotions")
 }

@@ -11,6 +11,7 @@ mod places;
 mod read;
 mod rules;
 mod tidy;
+mod tokens;
 
 pub use check::check;
 pub use complete::complete;
@@ -24,12 +25,27 @@ use layout::Pool;
 use places::Places;
 use read::read_into;
 use rules::Code;
+use tokens::Earning;
 
 /// A choice of a schedule: a kind and a thread.
 #[derive(Clone, Copy, Debug, PartialEq, Eq)]
 pub struct Choice {
     pub kind: u32,
     pub thread: u32,
+}
+
+/// What steps earn: `c` tokens for every `n` steps of a thread.
+#[derive(Clone, Copy, Debug, PartialEq, Eq)]
+pub struct Pace {
+    pub n: u32,
+    pub c: u32,
+}
+
+/// How many steps and promotions a run made.
+#[derive(Clone, Copy, Debug, PartialEq, Eq)]
+pub struct Ran {
+    pub steps: u64,
+    pub promotions: u64,
 }
 
 /// A refusal: its number, and its place where it has one.
@@ -111,6 +127,56 @@ pub fn schedule(table: &[u8], pool: &mut [i32], choices: &[Choice]) -> (u64, Res
         }
     }
     (choices.len() as u64, Ok(()))
+}
+
+/// One beat: the rule of its step and the number of promotions, or the refusal
+/// with the words as they were.
+#[inline(never)]
+pub fn beat(table: &[u8], pool: &mut [i32], pace: Pace, thread: u32) -> Result<(u8, u32), Refusal> {
+    let mut places = Places::new();
+    read_into(table, &mut places)?;
+    let pool = valid_mut(table, &places, pool)?;
+    let earning = Earning::of(pace)?;
+    Code::new(table, &places)
+        .beat(pool, earning, thread)
+        .map_err(Refusal::Plain)
+}
+
+/// A beat of each thread of a list, up to the first refusal: what was made, and
+/// that refusal.
+#[inline(never)]
+pub fn run(
+    table: &[u8],
+    pool: &mut [i32],
+    pace: Pace,
+    threads: &[u32],
+) -> (Ran, Result<(), Refusal>) {
+    let mut made = Ran {
+        steps: 0,
+        promotions: 0,
+    };
+    let answer = beats(table, pool, pace, threads, &mut made);
+    (made, answer)
+}
+
+fn beats(
+    table: &[u8],
+    pool: &mut [i32],
+    pace: Pace,
+    threads: &[u32],
+    made: &mut Ran,
+) -> Result<(), Refusal> {
+    let mut places = Places::new();
+    read_into(table, &mut places)?;
+    let pool = valid_mut(table, &places, pool)?;
+    let earning = Earning::of(pace)?;
+    let code = Code::new(table, &places);
+    for &thread in threads {
+        let (_, promotions) = code.beat(pool, earning, thread).map_err(Refusal::Plain)?;
+        made.steps += 1;
+        made.promotions += u64::from(promotions);
+    }
+    Ok(())
 }
 
 /// The words, if they are a pool of the table.

@@ -1,6 +1,6 @@
 //! The fast implementation put to the second implementation's inputs.
 
-use super::{Choice, Refusal};
+use super::{Choice, Pace, Ran, Refusal};
 use oracle::gen::schedules;
 use oracle::machine::Machine;
 
@@ -15,6 +15,13 @@ fn given<T>(answer: Result<T, Refusal>) -> Result<T, oracle::Refusal> {
             oracle::Refusal::fault(number, function.into(), block.into())
         }
     })
+}
+
+fn pace(pace: oracle::Pace) -> Pace {
+    Pace {
+        n: pace.n as u32,
+        c: pace.c as u32,
+    }
 }
 
 impl Machine for Fast {
@@ -86,6 +93,31 @@ impl Machine for Fast {
             .collect();
         let (count, answer) = super::schedule(table, pool, &choices);
         *made = count;
+        given(answer)
+    }
+
+    fn beat(
+        &self,
+        table: &[u8],
+        pool: &mut [i32],
+        at: oracle::Pace,
+        thread: u64,
+    ) -> Result<(u8, u64), oracle::Refusal> {
+        let made = given(super::beat(table, pool, pace(at), thread as u32))?;
+        Ok((made.0, made.1.into()))
+    }
+
+    fn run(
+        &self,
+        table: &[u8],
+        pool: &mut [i32],
+        at: oracle::Pace,
+        threads: &[u64],
+        made: &mut [u64; 2],
+    ) -> Result<(), oracle::Refusal> {
+        let threads: Vec<u32> = threads.iter().map(|&thread| thread as u32).collect();
+        let (Ran { steps, promotions }, answer) = super::run(table, pool, pace(at), &threads);
+        *made = [steps, promotions];
         given(answer)
     }
 

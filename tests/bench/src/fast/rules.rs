@@ -1,8 +1,9 @@
 //! The rules on a valid pool, in place: what a step does is found first, then
 //! written.
 
-use super::layout::{start_of, Pool, FRAME, FRAMES, THREAD};
+use super::layout::{start_of, Pool, FRAME, FRAMES, THREAD, TOKENS};
 use super::places::Places;
+use super::tokens::Earning;
 
 /// Words of a frame.
 const FUNCTION: usize = 0;
@@ -15,6 +16,8 @@ const CALLS: usize = 6;
 const VALUES: usize = 10;
 
 const STUCK: u8 = 19;
+/// The rule of a join.
+const PROM: u8 = 9;
 
 type Frame = [i32; FRAME];
 
@@ -100,6 +103,30 @@ impl<'a> Code<'a> {
         } else {
             self.promote(pool, thread as usize)
         }
+    }
+
+    /// One beat: the rule of its step, and how many promotions it made.
+    #[inline(always)]
+    pub fn beat(self, pool: &mut Pool, earning: Earning, thread: u32) -> Result<(u8, u32), u8> {
+        if thread >= pool[0] as u32 {
+            return Err(15);
+        }
+        let thread = thread as usize;
+        let (own, next) = (start_of(thread), start_of(thread + 1));
+        let behind = pool.get(next + TOKENS).copied().unwrap_or(0);
+        let rule = self.step(pool, thread)?;
+        let handed = if rule == PROM { behind } else { 0 };
+        let mut tokens = earning.after_step(pool, own, handed);
+        let mut promotions = 0;
+        while tokens > 0 && pool[0] < 8 && self.promote(pool, thread).is_ok() {
+            tokens -= 1;
+            let share = tokens / 2;
+            pool[next + TOKENS] = share;
+            tokens -= share;
+            promotions += 1;
+        }
+        pool[own + TOKENS] = tokens;
+        Ok((rule, promotions))
     }
 
     /// The first thread that can step.
@@ -314,7 +341,7 @@ impl<'a> Code<'a> {
         }
     }
 
-    #[inline]
+    #[inline(always)]
     fn step(self, pool: &mut Pool, thread: usize) -> Result<u8, u8> {
         let act = self.act(pool, thread)?;
         let start = newest(pool, thread);
@@ -363,7 +390,7 @@ impl<'a> Code<'a> {
                 own[PROMOTED] -= 1;
                 self.bind(own, parameters, &values);
                 remove(pool, thread + 1);
-                9
+                PROM
             }
         })
     }

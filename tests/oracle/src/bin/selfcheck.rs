@@ -1,10 +1,12 @@
 //! Puts the generators' inputs to the implementation and asserts what must
 //! hold of it: `selfcheck SEED COUNT`.
 
+use oracle::beats::{self, beat_as, Account, Beat, Entry, Pace, PACE};
 use oracle::complete::completed;
 use oracle::depth::{self, depth_of, CYCLE};
 use oracle::encode::{encode, encode_brief};
 use oracle::every;
+use oracle::gen::beats::{guided_thread, paces, quick_pace, PACES};
 use oracle::gen::brief::{self, bare, Brief};
 use oracle::gen::calls::{self, Calling};
 use oracle::gen::faults::{self, Kind, Planted};
@@ -16,7 +18,7 @@ use oracle::gen::{bytes, pools, programs, scenario, Scenario};
 use oracle::graph::live;
 use oracle::machine::{complete_differs, differences, unwritten, Oracle};
 use oracle::openers::Openers;
-use oracle::pool::{Frame, Pool, Purse, MAX_FRAMES};
+use oracle::pool::{Frame, Pool, Purse, MAX_FRAMES, MAX_THREADS, MAX_TOKENS};
 use oracle::rng::Rng;
 use oracle::rules::{self, ended, gather, Rule, PROMOTE, STEP};
 use oracle::table::{Function, Program, MAX_FUNCTIONS, TABLE_MAX};
@@ -53,6 +55,7 @@ fn check_round(tally: &mut Tally, rng: &mut Rng) {
     check_accepted(tally, &program, None);
     check_tidy(tally, rng, &program);
     check_run(tally, rng, &program);
+    check_tokens(tally, rng, &program);
     for _ in 0..4 {
         check_one_fault(tally, rng, &program);
         check_two_faults(tally, rng, &program);
@@ -70,6 +73,7 @@ fn check_round(tally: &mut Tally, rng: &mut Rng) {
     let program = looping(rng);
     check_accepted(tally, &program, None);
     check_run(tally, rng, &program);
+    check_tokens(tally, rng, &program);
     for _ in 0..3 {
         check_brief(tally, &brief::brief(rng));
     }
@@ -104,6 +108,9 @@ fn events() -> Vec<String> {
     events.extend(watch::COMPLETED.map(String::from));
     events.extend(pools::EDGES.map(String::from));
     events.extend(pools::NO_PURSES.map(String::from));
+    events.extend(PACES.map(String::from));
+    events.extend(watch::BEATS.map(String::from));
+    events.extend((0..MAX_THREADS as u64).map(watch::promotions_event));
     events.extend(
         [
             "run that returned",
@@ -120,6 +127,9 @@ fn events() -> Vec<String> {
             LATER_PASSES,
             HANDED,
             KEPT,
+            BEAT,
+            RAN,
+            STOPPED,
         ]
         .map(String::from),
     );
@@ -128,6 +138,9 @@ fn events() -> Vec<String> {
 
 const HANDED: &str = "child with the values of its spork";
 const KEPT: &str = "choice that keeps purses";
+const BEAT: &str = "beat within a run of choices, with promotions";
+const RAN: &str = "run from a fresh pool with 20 promotions";
+const STOPPED: &str = "run that a refused beat ends, after others";
 
 const BY_PATHS: &str = "depth by all paths";
 const BY_ROUNDS: &str = "depth by rounds alone";
@@ -455,10 +468,27 @@ impl Beside {
             format!("{choice:?}: {answer:?} once tidied, not {due:?}")
         });
     }
+
+    /// The same of a beat.
+    fn check_beat(
+        &mut self,
+        tally: &mut Tally,
+        program: &Program,
+        pool: &Pool,
+        (pace, thread): (Pace, u64),
+        due: &Result<Beat, u8>,
+    ) {
+        let answer = beats::beat(&self.tidy, &mut self.pool, pace, thread);
+        let values = ended(&self.tidy, &self.pool.root);
+        let same = answer == *due && values == ended(program, &pool.root);
+        tally.expect(same && self.numbering.pool(pool) == self.pool, || {
+            format!("a beat of {thread}: {answer:?} once tidied, not {due:?}")
+        });
+    }
 }
 
-/// A random run of an accepted table, made and refused choices: the words of
-/// demand 3 hold before and after every choice, and what the depth says; the
+/// A random run of an accepted table, made and refused choices and beats: the
+/// words of demand 3 hold before and after each, and what the depth says; the
 /// tidy program answers the same; and a child has its spork's arguments.
 fn check_run(tally: &mut Tally, rng: &mut Rng, program: &Program) {
     let table = encode(program);
@@ -470,10 +500,20 @@ fn check_run(tally: &mut Tally, rng: &mut Rng, program: &Program) {
     let mut beside = Beside::new(program);
     let mut openers = Openers::default();
     let policy = Policy::random(rng);
+    let beating = rng.one_of([0, 5, 25]);
     check_progress(tally, program, depth, &pool);
     let mut left = rng.one_of([20, 100, 400]);
     while left > 0 {
         left -= 1;
+        if rng.chance(beating) {
+            let pace = quick_pace(rng);
+            let thread = guided_thread(rng, program, &pool, 10);
+            let answer = check_run_beat(tally, program, &mut pool, &mut openers, pace, thread);
+            beside.check_beat(tally, program, &pool, (pace, thread), &answer);
+            check_room(tally, depth, &answer.map(|beat| beat.rule), &pool);
+            check_progress(tally, program, depth, &pool);
+            words = pool.to_words();
+        }
         let choice = guided_choice(rng, program, &pool, policy);
         check_join(tally, program, &mut pool, choice);
         let before = pool.clone();
@@ -506,6 +546,210 @@ fn check_run(tally: &mut Tally, rng: &mut Rng, program: &Program) {
     if ended(program, &pool.root).is_some() {
         tally.event("run that returned");
     }
+}
+
+/// A beat of a run counts as its step and then its promotions; nothing is ever
+/// stuck.
+fn check_run_beat(
+    tally: &mut Tally,
+    program: &Program,
+    pool: &mut Pool,
+    openers: &mut Openers,
+    pace: Pace,
+    thread: u64,
+) -> Result<Beat, u8> {
+    check_join(tally, program, pool, (STEP, thread));
+    let before = pool.clone();
+    let answer = beat_as(program, pool, pace, thread, Some(openers.next));
+    check_beat(tally, program, &before, pool, pace, thread, &answer);
+    tally.expect(answer != Err(19), || format!("a beat of {thread} is stuck"));
+    let step = answer.as_ref().map(|beat| beat.rule.number());
+    openers.follow(thread, step);
+    let promotions = answer.as_ref().map_or(0, |beat| beat.ledger.paid());
+    for _ in 0..promotions {
+        openers.follow::<()>(thread, Ok(Rule::Promote.number()));
+    }
+    let last = match &answer {
+        Ok(_) if promotions > 0 => Ok(Rule::Promote),
+        Ok(beat) => Ok(beat.rule),
+        Err(number) => Err(*number),
+    };
+    check_opened(tally, program, openers, pool, (PROMOTE, thread), &last);
+    if promotions > 0 {
+        tally.event(BEAT);
+    }
+    answer
+}
+
+/// What every answer to a beat must be. Its step and promotions are plain
+/// choices, and the next promotion would be refused or no token is left. The
+/// purses are those that the words of the request make, token by token, and the
+/// ledger has all tokens there are.
+fn check_beat(
+    tally: &mut Tally,
+    program: &Program,
+    before: &Pool,
+    after: &Pool,
+    pace: Pace,
+    thread: u64,
+    answer: &Result<Beat, u8>,
+) {
+    let mut plain = before.clone();
+    let step = rules::choose(program, &mut plain, STEP, thread);
+    let beat = match answer {
+        Ok(beat) => beat,
+        Err(number) => {
+            let due = if pace.fits() { step } else { Err(PACE) };
+            tally.expect(Err(*number) == due && before == after, || {
+                format!("{pace:?} {thread} gets {answer:?}, {due:?} due")
+            });
+            return;
+        }
+    };
+    let promotions = beat.ledger.paid();
+    let promote = |pool: &mut Pool| rules::choose(program, pool, PROMOTE, thread);
+    let made = (0..promotions).all(|_| promote(&mut plain).is_ok());
+    let next = promote(&mut plain.clone());
+    let own = thread as usize;
+    let left = purses(after)[own].tokens;
+    let over = left == 0 || next.is_err();
+    tally.expect(step == Ok(beat.rule) && made && pace.fits(), || {
+        format!("{beat:?}, and {step:?} of a plain step")
+    });
+    let stopped = next.err().filter(|_| left > 0);
+    tally.expect(over && stopped == beat.stopped, || {
+        format!("{beat:?} leaves {left} tokens, and {next:?} is next")
+    });
+    tally.expect(penniless(&plain) == penniless(after), || {
+        format!("{beat:?} leaves another pool than its choices: {after:?}")
+    });
+    let (given, due) = (
+        purses(after),
+        purses_due(before, beat.rule, pace, own, promotions),
+    );
+    tally.expect(given == due, || {
+        format!("{pace:?}: {beat:?} leaves the purses {given:?}, {due:?} due")
+    });
+    check_ledger(tally, before, after, pace, beat);
+    let decoded = Pool::from_words(program, &after.to_words());
+    tally.expect(decoded.as_ref() == Ok(after), || {
+        format!("{beat:?} leaves no valid pool: {after:?}")
+    });
+    for event in watch::beat(beat, pace) {
+        tally.event(event);
+    }
+    tally.event(&watch::promotions_event(promotions));
+}
+
+/// The purses that a beat leaves, by its rule and the number of its promotions.
+fn purses_due(before: &Pool, rule: Rule, pace: Pace, own: usize, promotions: u64) -> Vec<Purse> {
+    let most = u64::from(MAX_TOKENS);
+    let mut purses = purses(before);
+    let Purse { work, tokens } = purses[own];
+    let (mut work, mut tokens) = (u64::from(work), u64::from(tokens));
+    if rule == Rule::Prom {
+        tokens = most.min(tokens + u64::from(purses.remove(own + 1).tokens));
+    }
+    work += 1;
+    if work >= pace.n {
+        work = 0;
+        tokens = most.min(tokens + pace.c);
+    }
+    for _ in 0..promotions {
+        tokens -= 1;
+        let half = tokens / 2;
+        tokens -= half;
+        let child = Purse {
+            work: 0,
+            tokens: half as u32,
+        };
+        purses.insert(own + 1, child);
+    }
+    purses[own] = Purse {
+        work: work as u32,
+        tokens: tokens as u32,
+    };
+    purses
+}
+
+/// All tokens of the pool before, and those that came, are in the pool, or paid
+/// or dropped.
+fn check_ledger(tally: &mut Tally, before: &Pool, after: &Pool, pace: Pace, beat: &Beat) {
+    let all = |pool: &Pool| -> u64 { purses(pool).iter().map(|p| u64::from(p.tokens)).sum() };
+    let earned = beat.ledger.entries.contains(&Entry::Came(pace.c));
+    let came = if earned { pace.c } else { 0 };
+    let gone = beat.ledger.paid() + beat.ledger.dropped();
+    tally.expect(all(before) + came == all(after) + gone, || {
+        format!("{pace:?}: {beat:?} loses tokens: {before:?}, {after:?}")
+    });
+}
+
+/// A run of beats from a fresh pool, refused ones among them: after each beat
+/// promotions times N are at most C times steps, and the equation of all tokens
+/// and work holds. By the words, a run of them is its beats.
+fn check_tokens(tally: &mut Tally, rng: &mut Rng, program: &Program) {
+    let pace = quick_pace(rng);
+    let (mut pool, mut account) = (Pool::start(), Account::default());
+    let blind = rng.one_of([0, 3]);
+    let (mut threads, mut first) = (Vec::new(), None);
+    let mut length = rng.one_of([20, 80, 250]);
+    while length > 0 {
+        length -= 1;
+        let thread = guided_thread(rng, program, &pool, blind);
+        let before = pool.clone();
+        let answer = beats::beat(program, &mut pool, pace, thread);
+        check_beat(tally, program, &before, &pool, pace, thread, &answer);
+        match answer {
+            Ok(beat) => {
+                account.enter(&beat);
+                threads.push(thread);
+            }
+            Err(number) if first.is_none() => {
+                first = Some((threads.len(), thread, number, before, account.clone()));
+            }
+            Err(_) => {}
+        }
+        let holds = account.bounded(pace) && account.balances(pace, &purses(&pool));
+        tally.expect(holds, || format!("{pace:?}: {account:?}, and {pool:?}"));
+        if ended(program, &pool.root).is_some() {
+            length = length.min(2);
+        }
+    }
+    let table = encode(program);
+    let all = run_of(tally, &table, pace, &threads);
+    let due = ([account.steps, account.promotions], None, pool.to_words());
+    tally.expect(all == due, || {
+        format!("{all:?} of a run, {due:?} of its beats")
+    });
+    if let Some((made, thread, number, pool, account)) = first {
+        threads.insert(made, thread);
+        let all = run_of(tally, &table, pace, &threads);
+        let counts = [account.steps, account.promotions];
+        let due = (counts, Some(Refusal::plain(number)), pool.to_words());
+        tally.expect(all == due, || {
+            format!("{all:?} of a run, {due:?} of its beats")
+        });
+        if made > 0 {
+            tally.event(STOPPED);
+        }
+    }
+    if account.promotions >= 20 {
+        tally.event(RAN);
+    }
+}
+
+/// What a run from a fresh pool gives and leaves.
+fn run_of(
+    tally: &mut Tally,
+    table: &[u8],
+    pace: Pace,
+    threads: &[u64],
+) -> ([u64; 2], Option<Refusal>, Vec<i32>) {
+    let mut words = vec![-1; POOL_WORDS];
+    let started = oracle::start(table, &mut words);
+    tally.expect(started.is_ok(), || format!("no start: {started:?}"));
+    let (made, refusal) = oracle::run(table, &mut words, pace, threads);
+    (made, refusal, words)
 }
 
 /// The lists by the answers are the tree's own, and every open call has for its
@@ -748,8 +992,57 @@ fn check_scenario(tally: &mut Tally, input: &Scenario) {
             check_questions(tally, input, &program, &pool);
             check_choices(tally, input, &program, &pool);
             check_schedule(tally, input);
+            check_beats(tally, input, &program, &pool);
         }
     }
+}
+
+/// The beats of a scenario, one of every thread, and its run, which is its
+/// beats one after another up to the first refused.
+fn check_beats(tally: &mut Tally, input: &Scenario, program: &Program, pool: &Pool) {
+    let (pace, threads) = &input.run;
+    let each = (0..=pool.size() as u64).map(|thread| (*pace, thread));
+    for (pace, thread) in input.beats.iter().copied().chain(each) {
+        let mut after = pool.clone();
+        let answer = beats::beat(program, &mut after, pace, thread);
+        check_beat(tally, program, pool, &after, pace, thread, &answer);
+        let mut words = input.words.clone();
+        let given = oracle::beat(&input.table, &mut words, pace, thread);
+        let due = answer
+            .as_ref()
+            .map(|beat| (beat.rule, beat.ledger.paid()))
+            .map_err(|number| Refusal::plain(*number));
+        tally.expect(given == due && words == after.to_words(), || {
+            format!("{pace:?} {thread}: {given:?} given, {due:?} due")
+        });
+        if let Err(number) = answer {
+            tally.refusal(number);
+        }
+        for event in paces(pace) {
+            tally.event(event);
+        }
+    }
+    let (mut one_by_one, mut due) = (input.words.clone(), ([0, 0], None));
+    if !pace.fits() {
+        due.1 = Some(Refusal::plain(PACE));
+    }
+    for &thread in threads {
+        if due.1.is_some() {
+            break;
+        }
+        match oracle::beat(&input.table, &mut one_by_one, *pace, thread) {
+            Ok((_, promotions)) => {
+                due.0[0] += 1;
+                due.0[1] += promotions;
+            }
+            Err(refusal) => due.1 = Some(refusal),
+        }
+    }
+    let mut words = input.words.clone();
+    let given = oracle::run(&input.table, &mut words, *pace, threads);
+    tally.expect(given == due && words == one_by_one, || {
+        format!("{pace:?}, {threads:?}: {given:?} given, {due:?} due")
+    });
 }
 
 /// A word of a purse that is none gets 13, where the table reads.
@@ -793,6 +1086,8 @@ fn check_start(tally: &mut Tally, input: &Scenario) {
     tally.expect(fits, || "start leaves other words".to_string());
 }
 
+const NO_PACE: Pace = Pace { n: 0, c: 256 };
+
 /// Every call on a table or words that are none gets the same refusal.
 fn check_undecoded(tally: &mut Tally, input: &Scenario, refusal: Refusal) {
     tally.refusal(refusal.number);
@@ -804,6 +1099,10 @@ fn check_undecoded(tally: &mut Tally, input: &Scenario, refusal: Refusal) {
         oracle::values(&input.table, &words).err(),
         oracle::schedule(&input.table, &mut words, &[]).1,
         oracle::schedule(&input.table, &mut words, &input.choices).1,
+        oracle::beat(&input.table, &mut words, NO_PACE, 9).err(),
+        oracle::beat(&input.table, &mut words, input.run.0, 0).err(),
+        oracle::run(&input.table, &mut words, NO_PACE, &[]).1,
+        oracle::run(&input.table, &mut words, input.run.0, &input.run.1).1,
     ];
     let same = given.iter().all(|other| *other == Some(refusal));
     tally.expect(same, || format!("{refusal:?} due, {given:?} given"));

@@ -7,7 +7,7 @@ use crate::pool::{
 };
 use crate::rng::Rng;
 use crate::rules::choose;
-use crate::table::{Program, Transfer};
+use crate::table::{Block, Program, Transfer};
 
 /// A pool reached from the start by a guided run.
 pub fn reached(rng: &mut Rng, program: &Program, length: usize) -> Pool {
@@ -31,6 +31,132 @@ pub fn loose(rng: &mut Rng, program: &Program) -> Pool {
     Pool {
         root: loose_tree(rng, program, size),
     }
+}
+
+/// A valid pool of one thread with many calls to promote and everything bound,
+/// if the program has what stands at its newest frame.
+pub fn crowded(rng: &mut Rng, program: &Program) -> Option<Pool> {
+    let (newest, brought) = any_standing(rng, program)?;
+    let spawns = |f: usize| !program.functions[f].spawns.is_empty();
+    let mut spawning = places(program, |_| true);
+    spawning.retain(|&(f, _)| spawns(f));
+    let mut taking = spawning.clone();
+    taking.retain(|&(f, b)| program.functions[f].blocks[b].parameters.len() == brought);
+    let older = rng.between(1, MAX_FRAMES - 2);
+    let mut frames = Vec::new();
+    for number in 1..=older {
+        let fitting = if number == older { &taking } else { &spawning };
+        let place = rng.pick(fitting)?;
+        let mut frame = bound_at(rng, program, place);
+        frame.done = 0;
+        open_some(rng, program, &mut frame, 1);
+        frames.push(frame);
+    }
+    frames.push(newest);
+    let mut root = Thread::entering(0, &[]);
+    root.frames = frames;
+    Some(Pool { root })
+}
+
+/// A frame before a statement or at a transfer, any kind of them as often, if
+/// the program has it; and how many values it brings where it returns.
+fn any_standing(rng: &mut Rng, program: &Program) -> Option<(Frame, usize)> {
+    let stands: [fn(&Block) -> bool; 7] = [
+        |block| !block.statements.is_empty(),
+        |block| matches!(block.transfer, Transfer::Goto { .. }),
+        |block| matches!(block.transfer, Transfer::If { .. }),
+        |block| matches!(block.transfer, Transfer::Call { .. }),
+        |block| matches!(block.transfer, Transfer::Return { .. }),
+        |block| matches!(block.transfer, Transfer::Spork { .. }),
+        |block| matches!(block.transfer, Transfer::Spoin { .. }),
+    ];
+    let kind = rng.below(stands.len());
+    let (f, b) = rng.pick(&places(program, stands[kind]))?;
+    let block = &program.functions[f].blocks[b];
+    let mut frame = bound_at(rng, program, (f, b));
+    if kind == 0 {
+        frame.done = rng.below(block.statements.len());
+    }
+    match &block.transfer {
+        Transfer::Return { arguments } => return Some((frame, arguments.len())),
+        Transfer::Spoin { .. } => open_some(rng, program, &mut frame, 1),
+        _ => open_some(rng, program, &mut frame, 0),
+    }
+    Some((frame, 0))
+}
+
+/// Opens at least so many calls of a frame's function, none of them promoted,
+/// if it has spawn calls.
+fn open_some(rng: &mut Rng, program: &Program, frame: &mut Frame, least: usize) {
+    let spawns = program.functions[frame.function].spawns.len();
+    if spawns > 0 {
+        frame.calls = (0..rng.between(least, MAX_CALLS))
+            .map(|_| OpenCall::plain(rng.below(spawns)))
+            .collect();
+    }
+}
+
+/// A valid pool with a thread at a promoted spoin and an ended child, if the
+/// program has such blocks.
+pub fn joining(rng: &mut Rng, program: &Program) -> Option<Pool> {
+    let spoins = places(program, |block| {
+        matches!(block.transfer, Transfer::Spoin { .. })
+    });
+    let (f, b) = rng.pick(&spoins)?;
+    let function = &program.functions[f];
+    let Transfer::Spoin { promoted, .. } = function.blocks[b].transfer else {
+        return None;
+    };
+    if function.spawns.is_empty() {
+        return None;
+    }
+    let taken = function.block(promoted)?.parameters.len();
+    let gives = |block: &Block| matches!(&block.transfer, Transfer::Return { arguments } if arguments.len() == taken);
+    let ended = rng.pick(&places(program, gives))?;
+    let open = rng.between(1, MAX_CALLS);
+    let mut frame = bound_at(rng, program, (f, b));
+    frame.promoted = open;
+    frame.calls = (0..open)
+        .map(|_| OpenCall::plain(rng.below(function.spawns.len())))
+        .collect();
+    let child = |frame: Frame| {
+        let mut thread = Thread::entering(0, &[]);
+        thread.frames = vec![frame];
+        thread
+    };
+    let mut root = child(frame.clone());
+    root.children = (0..open)
+        .map(|_| child(bound_at(rng, program, ended)))
+        .collect();
+    if rng.chance(50) {
+        let mut parent = child(frame);
+        parent.frames[0].calls.truncate(1);
+        parent.frames[0].promoted = 1;
+        parent.children.push(root);
+        root = parent;
+    }
+    Some(Pool { root })
+}
+
+/// The blocks of a program that are of a kind, each with its function.
+fn places(program: &Program, kind: impl Fn(&Block) -> bool) -> Vec<(usize, usize)> {
+    let functions = program.functions.iter().enumerate();
+    functions
+        .flat_map(|(f, function)| {
+            let blocks = function.blocks.iter().enumerate();
+            let found = blocks.filter(|(_, block)| kind(block));
+            found.map(|(b, _)| (f, b)).collect::<Vec<_>>()
+        })
+        .collect()
+}
+
+/// A frame at the transfer of a block, with everything bound and nothing open.
+fn bound_at(rng: &mut Rng, program: &Program, (function, block): (usize, usize)) -> Frame {
+    let mut frame = Frame::entering(function, &[]);
+    frame.block = block;
+    frame.done = program.functions[function].blocks[block].statements.len();
+    frame.temporaries = [(); TEMPORARIES].map(|()| Some(rng.value()));
+    frame
 }
 
 /// A tree of a number of threads.
@@ -62,20 +188,11 @@ fn loose_tree(rng: &mut Rng, program: &Program, size: usize) -> Thread {
 
 /// A frame at a return with everything bound and nothing open.
 fn ended_frame(rng: &mut Rng, program: &Program) -> Option<Frame> {
-    let mut places = Vec::new();
-    for (f, function) in program.functions.iter().enumerate() {
-        for (b, block) in function.blocks.iter().enumerate() {
-            if let Transfer::Return { .. } = block.transfer {
-                places.push((f, b));
-            }
-        }
-    }
-    let (function, block) = rng.pick(&places)?;
-    let mut frame = Frame::entering(function, &[]);
-    frame.block = block;
-    frame.done = program.functions[function].blocks[block].statements.len();
-    frame.temporaries = [(); TEMPORARIES].map(|()| Some(rng.value()));
-    Some(frame)
+    let returns = places(program, |block| {
+        matches!(block.transfer, Transfer::Return { .. })
+    });
+    let place = rng.pick(&returns)?;
+    Some(bound_at(rng, program, place))
 }
 
 /// A call stack with a number of promoted calls, these the oldest.
@@ -156,7 +273,15 @@ fn any_purse(rng: &mut Rng) -> Purse {
     let tokens = rng.below(MAX_TOKENS as usize + 1) as u32;
     Purse {
         work: rng.one_of([0, 1, few, MAX_WORK - 1, MAX_WORK, work]),
-        tokens: rng.one_of([0, 1, few % 16, MAX_TOKENS - few, MAX_TOKENS, tokens]),
+        tokens: rng.one_of([
+            0,
+            1,
+            few % 16,
+            few % 128,
+            MAX_TOKENS - few,
+            MAX_TOKENS,
+            tokens,
+        ]),
     }
 }
 

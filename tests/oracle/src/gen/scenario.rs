@@ -1,8 +1,9 @@
-//! Whole inputs: a table, the words of a pool and a schedule.
+//! Whole inputs: a table, the words of a pool, a schedule, beats and a run.
 
+use crate::beats::Pace;
 use crate::encode::encode;
 use crate::gen::schedules::{blind_schedule, guided_schedule, Choice};
-use crate::gen::{bytes, faults, pools, programs};
+use crate::gen::{beats, bytes, faults, pools, programs};
 use crate::pool::{Pool, POOL_WORDS};
 use crate::rng::Rng;
 use crate::table::{Program, TABLE_MAX};
@@ -32,16 +33,25 @@ impl Source {
 
 /// Where a scenario's words and choices come from, by name.
 pub fn notes() -> Vec<&'static str> {
-    [&SOURCES[..], &pools::EDGES, &pools::NO_PURSES].concat()
+    [
+        &SOURCES[..],
+        &pools::EDGES,
+        &pools::NO_PURSES,
+        &beats::PACES,
+    ]
+    .concat()
 }
 
-const SOURCES: [&str; 11] = [
-    START, REACHED, ANY_POOL, PURSES, BROKEN, CHANGED, FILLED, ARBITRARY, RESIZED, GUIDED, BLIND,
+const SOURCES: [&str; 15] = [
+    CROWDED, JOINING, START, REACHED, ANY_POOL, PURSES, BROKEN, CHANGED, FILLED, ARBITRARY,
+    RESIZED, GUIDED, BLIND, RUN, EMPTY,
 ];
 
 const START: &str = "pool at the start";
 const REACHED: &str = "pool reached by a run";
 const ANY_POOL: &str = "pool of any kind";
+const CROWDED: &str = "pool with many calls to promote";
+const JOINING: &str = "pool with a child to join";
 const PURSES: &str = "pool with any purses";
 const BROKEN: &str = "pool with a condition broken";
 const CHANGED: &str = "pool with one word changed";
@@ -50,6 +60,8 @@ const ARBITRARY: &str = "arbitrary words";
 const RESIZED: &str = "words of another length";
 const GUIDED: &str = "guided schedule";
 const BLIND: &str = "blind schedule";
+const RUN: &str = "run of some threads";
+const EMPTY: &str = "run of no thread";
 
 /// An input for every call.
 #[derive(Clone, Debug)]
@@ -62,6 +74,10 @@ pub struct Scenario {
     pub more_tables: Vec<Vec<u8>>,
     pub words: Vec<i32>,
     pub choices: Vec<Choice>,
+    /// Paces and threads, each to be put to the words.
+    pub beats: Vec<(Pace, u64)>,
+    /// A pace and the threads of a run.
+    pub run: (Pace, Vec<u64>),
 }
 
 /// A scenario of any kind; tables may get any of 1 to 11, words 12 and 13.
@@ -81,6 +97,8 @@ pub fn scenario(rng: &mut Rng) -> Scenario {
     };
     let mut notes = Vec::new();
     let (pool, choices) = pool_and_choices(rng, &program, &mut notes);
+    let beats = some_beats(rng, &mut notes);
+    let run = some_run(rng, &program, &pool, &mut notes);
     let more_tables = faulty_tables(rng, &program);
     let table = match source {
         Source::Spoiled => bytes::spoiled(rng, &program).0,
@@ -94,6 +112,8 @@ pub fn scenario(rng: &mut Rng) -> Scenario {
         more_tables,
         words,
         choices,
+        beats,
+        run,
     }
 }
 
@@ -135,9 +155,17 @@ fn pool_and_choices(
     notes: &mut Vec<&'static str>,
 ) -> (Pool, Vec<Choice>) {
     let length = rng.below(60);
-    let (note, mut pool) = match rng.below(4) {
-        0 => (START, Pool::start()),
-        1 => (REACHED, pools::reached(rng, program, length)),
+    let (note, mut pool) = match rng.below(12) {
+        0..=2 => (START, Pool::start()),
+        3..=5 => (REACHED, pools::reached(rng, program, length)),
+        6 | 7 => match pools::crowded(rng, program) {
+            Some(pool) => (CROWDED, pool),
+            None => (ANY_POOL, pools::loose(rng, program)),
+        },
+        8 => match pools::joining(rng, program) {
+            Some(pool) => (JOINING, pool),
+            None => (ANY_POOL, pools::loose(rng, program)),
+        },
         _ => (ANY_POOL, pools::loose(rng, program)),
     };
     notes.push(note);
@@ -157,6 +185,45 @@ fn pool_and_choices(
     let choices = guided_schedule(rng, program, &pool, length, refused);
     notes.push(GUIDED);
     (pool, choices)
+}
+
+/// Beats of any pace and thread, a few out of range.
+fn some_beats(rng: &mut Rng, notes: &mut Vec<&'static str>) -> Vec<(Pace, u64)> {
+    let beats: Vec<(Pace, u64)> = (0..5)
+        .map(|number| {
+            let pace = match number {
+                0 => beats::no_pace(rng),
+                _ => beats::pace(rng),
+            };
+            (pace, beats::blind_thread(rng))
+        })
+        .collect();
+    notes.extend(beats.iter().flat_map(|&(pace, _)| beats::paces(pace)));
+    beats
+}
+
+/// A run of any pace, for a pool or blind.
+fn some_run(
+    rng: &mut Rng,
+    program: &Program,
+    pool: &Pool,
+    notes: &mut Vec<&'static str>,
+) -> (Pace, Vec<u64>) {
+    let pace = match rng.below(10) {
+        0 => beats::no_pace(rng),
+        1..=3 => beats::pace(rng),
+        _ => beats::quick_pace(rng),
+    };
+    notes.extend(beats::paces(pace));
+    let length = rng.one_of([0, 1, 4, 30, 120]);
+    let threads = if rng.chance(70) && pace.fits() {
+        let refused = rng.chance(50);
+        beats::guided_run(rng, program, pool, pace, length, refused)
+    } else {
+        (0..length).map(|_| beats::blind_thread(rng)).collect()
+    };
+    notes.push(if threads.is_empty() { EMPTY } else { RUN });
+    (pace, threads)
 }
 
 /// Words kept, changed in some places, of another length or arbitrary.

@@ -1,0 +1,2 @@
+pub mod Purses
+pub mod Beating

@@ -1,0 +1,11 @@
+pub mod Purses
+pub mod Kept
+pub mod Words
+pub mod Survivors
+pub mod Sums
+pub mod Counts
+pub mod Bound
+pub mod Account
+pub mod Few
+pub mod Exhausts
+pub mod Rows
