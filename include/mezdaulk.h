@@ -155,8 +155,9 @@ uint64_t mezdaulk_start(const uint8_t *table, size_t bytes, int32_t *pool, size_
  * work and the tokens of every thread that stays: a child begins with none, and those of a child that is joined go with it. */
 uint64_t mezdaulk_choose(const uint8_t *table, size_t bytes, int32_t *pool, size_t words, uint32_t kind, uint32_t thread);
 
-/* Which thread can step? Given: a thread whose step makes a rule, or MEZDAULK_NO_THREAD exactly if there is none. Refused: 1 to
- * 3, 12, 13. */
+/* Which thread can step? Given: the lowest-numbered thread whose step makes a rule, or MEZDAULK_NO_THREAD exactly if there is none. Two
+ * runs of plain steps, each of the thread that it names, with one table and from equal words, make the same rules and leave the same
+ * words, as far as both go. Refused: 1 to 3, 12, 13. */
 uint64_t mezdaulk_which(const uint8_t *table, size_t bytes, const int32_t *pool, size_t words);
 
 /* Main's values. Given: how many there are, 0 to 4, and that many of values are written; or MEZDAULK_OPEN while main has not

@@ -1,6 +1,6 @@
-/* Checks table B of document 01, writes it afresh, completes it from what has no scopes and nestings, and runs it, by beats and by
- * choices: the spork's call is promoted and joined, and main returns 7. Each answer is printed and held to what it must be; the status is
- * 1 if one is another. */
+/* Checks table B of document 01, writes it afresh, completes it from what has no scopes and nestings, and runs it, by beats, by the
+ * first thread that can step and by choices: the spork's call is promoted and joined, and main returns 7. Each answer is printed and held
+ * to what it must be; the status is 1 if one is another. */
 #include <inttypes.h>
 #include <stdio.h>
 #include <string.h>
@@ -19,6 +19,14 @@ static const uint8_t brief[] = {
     0x00, 0x00, 0x00, 0x38, 0x02, 0x02, 0x00, 0x01, 0x04, 0x01, 0x01, 0x00, 0x00, 0x00, 0x04, 0x01, 0x00, 0x00, 0x00,
     0x05, 0x02, 0x03, 0x00, 0x01, 0x00, 0x00, 0x00, 0x00, 0x00, 0x00, 0x01, 0x03, 0x01, 0x00, 0x01, 0x00, 0x00, 0x03,
     0x01, 0x00, 0x00, 0x01, 0x01, 0x00, 0x00, 0x01, 0x00, 0x00, 0x00, 0x00, 0x00, 0x00, 0x07, 0x03, 0x01, 0x00,
+};
+
+/* B with a statement before its spoin. */
+static const uint8_t busy[] = {
+    0x00, 0x00, 0x00, 0x4F, 0x01, 0x02, 0x00, 0x01, 0x04, 0x01, 0x01, 0x00, 0x00, 0x00, 0x00, 0x00, 0x00, 0x04, 0x01, 0x00,
+    0x00, 0x00, 0x00, 0x01, 0x00, 0x01, 0x00, 0x00, 0x00, 0x00, 0x00, 0x00, 0x00, 0x05, 0x02, 0x03, 0x00, 0x00, 0x00, 0x00,
+    0x01, 0x00, 0x00, 0x00, 0x00, 0x00, 0x00, 0x01, 0x03, 0x01, 0x00, 0x01, 0x00, 0x00, 0x00, 0x00, 0x00, 0x03, 0x01, 0x00,
+    0x00, 0x01, 0x01, 0x00, 0x00, 0x00, 0x00, 0x00, 0x01, 0x00, 0x00, 0x00, 0x00, 0x00, 0x00, 0x07, 0x03, 0x01, 0x00,
 };
 
 static int wrong = 0;
@@ -98,6 +106,60 @@ static void beats(void) {
     four(values, 7);
 }
 
+/* A step that was made: its thread and its rule. */
+struct step {
+    uint32_t thread, rule;
+};
+
+/* Steps of the first thread that can step, until there is none or so many are made; tells how many were. */
+static size_t by_first(const uint8_t *code, size_t bytes, int32_t *pool, struct step *steps, size_t most) {
+    size_t made;
+    for (made = 0; made < most; made++) {
+        const uint64_t first = mezdaulk_which(code, bytes, pool, MEZDAULK_POOL_WORDS);
+        const uint32_t thread = MEZDAULK_VALUE(first);
+        if (!MEZDAULK_GIVEN(first) || thread == MEZDAULK_NO_THREAD) {
+            break;
+        }
+        steps[made].thread = thread;
+        steps[made].rule = MEZDAULK_VALUE(mezdaulk_choose(code, bytes, pool, MEZDAULK_POOL_WORDS, MEZDAULK_STEP, thread));
+    }
+    return made;
+}
+
+/* A pool with a promoted child is run by the first, and a second time in two parts: the same steps, words and result. */
+static void same_order(const uint8_t *code, size_t bytes, const struct step *due, size_t count) {
+    static int32_t whole[MEZDAULK_POOL_WORDS], parts[MEZDAULK_POOL_WORDS];
+    const struct mezdaulk_choice choices[] = {{MEZDAULK_STEP, 0}, {MEZDAULK_PROMOTE, 0}};
+    const size_t words = MEZDAULK_POOL_WORDS;
+    struct step steps[4] = {{0, 0}}, same[4] = {{0, 0}};
+    int32_t values[4] = {-1, -1, -1, -1};
+    uint64_t made;
+    size_t k;
+    given("start", mezdaulk_start(code, bytes, whole, words), 0);
+    given("step 0, promote 0", mezdaulk_schedule(code, bytes, whole, words, choices, 2, &made), 0);
+    memcpy(parts, whole, sizeof whole);
+    hold("the steps by the first", (int64_t)by_first(code, bytes, whole, steps, 4), (int64_t)count);
+    hold("one step by the first", (int64_t)by_first(code, bytes, parts, same, 1), 1);
+    hold("the steps after it", (int64_t)by_first(code, bytes, parts, same + 1, 3), (int64_t)count - 1);
+    for (k = 0; k < count; k++) {
+        printf("by the first: step %" PRIu32 " made rule %" PRIu32 "\n", steps[k].thread, steps[k].rule);
+        hold("its thread", steps[k].thread, due[k].thread);
+        hold("its rule", steps[k].rule, due[k].rule);
+        hold("its thread in two parts", same[k].thread, due[k].thread);
+        hold("its rule in two parts", same[k].rule, due[k].rule);
+    }
+    hold("the words in two parts", memcmp(parts, whole, sizeof whole), 0);
+    given("values", mezdaulk_values(code, bytes, whole, words, values), 1);
+    four(values, 7);
+}
+
+/* In B main waits for its child; in the other table both can step. */
+static void orders(void) {
+    const struct step due[] = {{0, MEZDAULK_RULE_STMT}, {1, MEZDAULK_RULE_STMT}, {0, MEZDAULK_RULE_PROM}};
+    same_order(table, sizeof table, due + 1, 2);
+    same_order(busy, sizeof busy, due, 3);
+}
+
 int main(void) {
     static int32_t pool[MEZDAULK_POOL_WORDS];
     uint8_t damaged[sizeof table];
@@ -122,6 +184,7 @@ int main(void) {
     hold("the tidy table, which B is already,", memcmp(tidy, table, bytes), 0);
     complete();
     beats();
+    orders();
 
     refused("start with no words", mezdaulk_start(table, bytes, NULL, 0), MEZDAULK_REFUSED_WORDS);
     given("start", mezdaulk_start(table, bytes, pool, words), 0);

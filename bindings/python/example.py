@@ -1,6 +1,6 @@
 #!/usr/bin/env python3
-"""Checks table B of document 01, writes it afresh, completes it from what has no scopes and nestings, and runs it, by beats and by
-choices, through the shared object: the spork's call is promoted and joined, and main returns 7.
+"""Checks table B of document 01, writes it afresh, completes it from what has no scopes and nestings, and runs it, by beats, by the
+first thread that can step and by choices, through the shared object: the spork's call is promoted and joined, and main returns 7.
 
 example.py [LIBRARY]; without it MEZDAULK_LIBRARY is taken, or target/make/libmezdaulk.so of this repository, which make builds. Each
 answer is printed and held to what it must be; the status is 1 if one is another.
@@ -211,6 +211,51 @@ def beats(lib, held):
     held.hold("the steps and promotions made", list(made), [3, 1])
 
 
+def steps_by_first(lib, table, pool, most=None):
+    """Steps of the first thread that can step, until there is none or so many are made: each thread with its rule, in order."""
+    made = []
+    while most is None or len(made) < most:
+        first = lib.mezdaulk_which(*table, *pool)
+        if not GIVEN(first):
+            raise ValueError(f"which: refused {NUMBER(first)}")
+        if VALUE(first) == NO_THREAD:
+            break
+        step = lib.mezdaulk_choose(*table, *pool, STEP, VALUE(first))
+        assert GIVEN(step), "a step of the thread that can step is never refused"
+        made.append((VALUE(first), VALUE(step)))
+    return made
+
+
+def by_first(lib, held):
+    """Pools with a promoted child are run by the first thread that can step: of B, where main waits for it, and of B with a statement
+    before its spoin, where both can step. Twice, the second time in two parts, and once more as one schedule."""
+    busy = bytearray(TABLE_B)
+    busy[25:26] = bytes.fromhex("01 00 00 00 00000000")
+    busy[3] = len(busy)
+    waits = [(1, RULE_STMT), (0, RULE_PROM)]
+    for code, due in ((TABLE_B, waits), (busy, [(0, RULE_STMT)] + waits)):
+        table = lent(code)
+        whole, parts, replayed = (((ctypes.c_int32 * POOL_WORDS)(), POOL_WORDS) for _ in range(3))
+        for pool in (whole, parts, replayed):
+            held.given("start", lib.mezdaulk_start(*table, *pool), 0)
+            held.given("step 0", lib.mezdaulk_choose(*table, *pool, STEP, 0), RULE_SPORK)
+            held.given("promote 0", lib.mezdaulk_choose(*table, *pool, PROMOTE, 0), RULE_PROMOTE)
+        steps = steps_by_first(lib, table, whole)
+        print(f"steps by the first: {steps}")
+        held.hold("the steps by the first", steps, due)
+        begun = steps_by_first(lib, table, parts, 1)
+        held.hold("one step by the first", begun, steps[:1])
+        held.hold("the steps in two parts", begun + steps_by_first(lib, table, parts), steps)
+        held.hold("the words in two parts", list(parts[0]), list(whole[0]))
+        choices = (Choice * len(steps))(*((STEP, thread) for thread, _ in steps))
+        made = ctypes.c_uint64(99)
+        held.given("the steps as a schedule", lib.mezdaulk_schedule(*table, *replayed, choices, len(choices), ctypes.byref(made)), 0)
+        held.hold("the words of the schedule", list(replayed[0]), list(whole[0]))
+        values = Values(-1, -1, -1, -1)
+        held.given("values", lib.mezdaulk_values(*table, *whole, values), 1)
+        held.hold("the values", list(values), [7, -1, -1, -1])
+
+
 def run(lib, held):
     """A pool is started and run to its result."""
     table = lent(TABLE_B)
@@ -245,6 +290,7 @@ def main():
     tidy(lib, held)
     complete(lib, held)
     beats(lib, held)
+    by_first(lib, held)
     run(lib, held)
     return 1 if held.wrong else 0
 

@@ -8,6 +8,7 @@
 #include <sys/mman.h>
 #include <unistd.h>
 
+#include "asked.h"
 #include "brief_b.h"
 #include "line.h"
 #include "mezdaulk.h"
@@ -304,6 +305,51 @@ static void beats_fenced(enum side side) {
     kept_beside("beside the numbers made", lent_made);
 }
 
+/* The first thread whose step is made in a copy of the pool, of all that there may be. */
+static uint32_t first_made(const uint8_t *t, size_t length, const int32_t *p) {
+    static int32_t copy[MEZDAULK_POOL_WORDS];
+    uint32_t thread;
+    for (thread = 0; thread < MEZDAULK_NO_THREAD; thread++) {
+        memcpy(copy, p, sizeof copy);
+        if (MEZDAULK_GIVEN(mezdaulk_choose(t, length, copy, MEZDAULK_POOL_WORDS, MEZDAULK_STEP, thread))) {
+            break;
+        }
+    }
+    return thread;
+}
+
+/* Which thread can step, asked along a run with table and pool at fences: the lowest-numbered, and no word is changed. */
+static void which_fenced(enum side side, const uint8_t *code, size_t length, const struct asked *asked, size_t rows) {
+    static int32_t before[MEZDAULK_POOL_WORDS];
+    const struct lent lent_table = lend(side, code, length), lent_pool = lend(side, NULL, sizeof before);
+    const uint8_t *t = lent_table.at;
+    int32_t *p = (int32_t *)(void *)lent_pool.at;
+    const size_t n = MEZDAULK_POOL_WORDS;
+    size_t k;
+    hold("start", mezdaulk_start(t, length, p, n), GIVEN(0));
+    hold("which of a fresh pool", mezdaulk_which(t, length, p, n), GIVEN(0));
+    for (k = 0; k < rows; k++) {
+        hold("a choice that is made", mezdaulk_choose(t, length, p, n, asked[k].choice.kind, asked[k].choice.thread), GIVEN(asked[k].rule));
+        memcpy(before, p, sizeof before);
+        hold("the first thread that can step", mezdaulk_which(t, length, p, n), GIVEN(asked[k].which));
+        hold("the first by single steps", first_made(t, length, p), asked[k].which);
+        hold("the words", (uint64_t)(memcmp(p, before, sizeof before) != 0), 0);
+    }
+    hold("the table", (uint64_t)(memcmp(t, code, length) != 0), 0);
+    kept_beside("beside the table", lent_table);
+    kept_beside("beside the pool", lent_pool);
+}
+
+/* Where several can step, one waits, one is stuck, each of eight is the only one, none has a frame left, and none is left. */
+static void whiches(enum side side) {
+    uint8_t deep[LINE_ROOM];
+    const size_t length = line(deep, 1, 1);
+    which_fenced(side, busy_b, sizeof busy_b, busy_asked, sizeof busy_asked / sizeof busy_asked[0]);
+    which_fenced(side, stuck_b, sizeof stuck_b, stuck_asked, sizeof stuck_asked / sizeof stuck_asked[0]);
+    which_fenced(side, spawner, sizeof spawner, spawner_asked, sizeof spawner_asked / sizeof spawner_asked[0]);
+    which_fenced(side, deep, length, deep_asked, sizeof deep_asked / sizeof deep_asked[0]);
+}
+
 /* B completed with outputs and scratches at fences, of the right lengths and of others. What is not written stays. */
 static void complete_fenced(enum side side) {
     const size_t rooms[] = {0, MEZDAULK_OUTPUT_BYTES - 1, MEZDAULK_OUTPUT_BYTES, MEZDAULK_OUTPUT_BYTES + 1};
@@ -441,6 +487,7 @@ int main(void) {
     for (side = 0; side < SIDES; side++) {
         run_fenced((enum side)side);
         beats_fenced((enum side)side);
+        whiches((enum side)side);
         tidy_fenced((enum side)side, table_b, sizeof table_b, table_b, sizeof table_b);
         tidy_fenced((enum side)side, untidy_b, sizeof untidy_b, table_b, sizeof table_b);
         beginnings((enum side)side);

@@ -231,7 +231,7 @@ pub fn run(
     (Ran { steps, promotions }, answered(answer).map(|_| ()))
 }
 
-/// A thread whose step makes a rule, or none exactly if there is none. Refused: 1 to 3, 12, 13.
+/// The lowest-numbered thread whose step makes a rule, or none exactly if there is none. Refused: 1 to 3, 12, 13.
 pub fn which(table: &[u8], pool: &[i32]) -> Result<Option<u32>, Refusal> {
     // Safety: both slices are valid for their lengths, and nothing is written.
     answered(unsafe { raw::mezdaulk_which(table.as_ptr(), table.len(), pool.as_ptr(), pool.len()) })

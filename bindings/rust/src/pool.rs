@@ -132,7 +132,8 @@ impl Pool {
         lent::run(table, &mut self.words, pace, threads)
     }
 
-    /// A thread whose step makes a rule, or none exactly if there is none. Refused: 1 to 3, 13.
+    /// The lowest-numbered thread whose step makes a rule, or none exactly if there is none. Two runs of plain steps, each of the thread
+    /// that it names, with one table and from equal pools, make the same rules and pools, as far as both go. Refused: 1 to 3, 13.
     pub fn which(&self, table: &[u8]) -> Result<Option<u32>, Refusal> {
         lent::which(table, &self.words)
     }

@@ -72,7 +72,7 @@ extern "C" {
         thread: u32,
     ) -> u64;
 
-    /// Which thread can step?
+    /// Which thread can step? The lowest-numbered.
     pub fn mezdaulk_which(table: *const u8, bytes: usize, pool: *const i32, words: usize) -> u64;
 
     /// Main's values, of which there is room for four.

@@ -46,6 +46,83 @@ fn a_promotion_and_its_join() {
     assert_eq!(*pool.values(&B).unwrap().unwrap(), [7]);
 }
 
+/// B with a statement before its spoin: once its spork is promoted both threads can step.
+fn busy_b() -> Vec<u8> {
+    let mut table = B.to_vec();
+    table.splice(25..26, [1, 0, 0, 0, 0, 0, 0, 0]);
+    table[3] = table.len() as u8;
+    table
+}
+
+/// A pool whose first spork is promoted.
+fn promoted(table: &[u8]) -> Pool {
+    let mut pool = Pool::start(table).unwrap();
+    assert_eq!(pool.step(table, 0), Ok(Rule::Spork));
+    assert_eq!(pool.promote(table, 0), Ok(Rule::Promote));
+    pool
+}
+
+#[test]
+fn the_first_thread_that_can_step() {
+    let table = busy_b();
+    assert_eq!(check(&table), Ok(()));
+    let mut pool = promoted(&table);
+    for thread in [0, 1] {
+        assert_eq!(pool.clone().step(&table, thread), Ok(Rule::Stmt));
+    }
+    assert_eq!(pool.which(&table), Ok(Some(0)));
+    // Main waits for its child, and then the child has ended.
+    assert_eq!(pool.step(&table, 0), Ok(Rule::Stmt));
+    assert_eq!(reason(pool.clone().step(&table, 0)), Reason::Waits);
+    assert_eq!(pool.which(&table), Ok(Some(1)));
+    assert_eq!(pool.step(&table, 1), Ok(Rule::Stmt));
+    assert_eq!(reason(pool.clone().step(&table, 1)), Reason::Ended);
+    assert_eq!(pool.which(&table), Ok(Some(0)));
+    assert_eq!(pool.step(&table, 0), Ok(Rule::Prom));
+    assert_eq!(pool.which(&table), Ok(None));
+}
+
+/// Steps of the first thread that can step, until there is none or so many are made: each thread with its rule.
+fn by_first(table: &[u8], pool: &mut Pool, most: usize) -> Vec<(u32, Rule)> {
+    let mut made = Vec::new();
+    while made.len() < most {
+        let Some(thread) = pool.which(table).unwrap() else {
+            break;
+        };
+        made.push((thread, pool.step(table, thread).unwrap()));
+    }
+    made
+}
+
+#[test]
+fn runs_by_the_first_are_the_same() {
+    // Of B, where main waits for its child, and where both can step.
+    let all = [(0, Rule::Stmt), (1, Rule::Stmt), (0, Rule::Prom)];
+    for (table, due) in [(B.to_vec(), &all[1..]), (busy_b(), &all[..])] {
+        let start = promoted(&table);
+        let mut whole = start.clone();
+        assert_eq!(by_first(&table, &mut whole, usize::MAX), due);
+        assert_eq!(*whole.values(&table).unwrap().unwrap(), [7]);
+        // One that stops is the beginning of it, and goes on to the same end.
+        for most in 0..=due.len() {
+            let mut parts = start.clone();
+            assert_eq!(by_first(&table, &mut parts, most), due[..most]);
+            assert_eq!(by_first(&table, &mut parts, usize::MAX), due[most..]);
+            assert_eq!(parts, whole);
+        }
+        let steps: Vec<Choice> = due.iter().map(|step| Choice::step(step.0)).collect();
+        let mut replayed = start;
+        assert_eq!(replayed.schedule(&table, &steps), (due.len(), Ok(())));
+        assert_eq!(replayed, whole);
+    }
+    // It ends at a call with eight frames too, and then main has not returned.
+    let table = line(9);
+    let mut pool = Pool::start(&table).unwrap();
+    assert_eq!(by_first(&table, &mut pool, 9), [(0, Rule::Call); 7]);
+    assert_eq!(reason(pool.step(&table, 0)), Reason::Frames);
+    assert_eq!(pool.values(&table), Ok(None));
+}
+
 #[test]
 fn choices_that_are_refused() {
     let mut pool = Pool::start(&A).unwrap();

@@ -17,7 +17,7 @@ pub enum Chosen {
     Refused(Refusal),
 }
 
-// The answer to which thread can step: a thread that can; that none can; or a refusal.
+// The answer to which thread can step: the first that can; that none can; or a refusal.
 pub enum Stepping {
     Thread(usize),
     Nobody,
@@ -66,9 +66,9 @@ pub fn choose(table: &[u8], pool: &mut [i32], kind: u32, thread: u32) -> Chosen
     }
 }
 
-// Which thread can step. Nothing is written.
+// Which thread can step: the first. Nothing is written.
 pub fn which(table: &[u8], pool: &[i32]) -> Stepping
-    ensures { λ r. ⌜ Calls.Which (now (table .entry)) (now (pool .entry)) (steppingOf r) ⌝ }
+    ensures { λ r. ⌜ steppingOf r ≡ Calls.which (now (table .entry)) (now (pool .entry)) ⌝ }
 {
     let mut places = places::none();
     match lend::pool(table, &mut places, pool) {

@@ -14,7 +14,7 @@ use Rattle.safety.proofs.Theorem.{demand3}
 use Rattle.numbering.specs.Means.{Alike}
 use Rattle.host.specs.Macros.{isGiven, value, poolWords}
 use Rattle.host.specs.Exports as Exports
-use Rattle.host.specs.Exports.{done, asNumber, beatNumber}
+use Rattle.host.specs.Exports.{done, asNumber, beatNumber, stepperOf}
 use Rattle.host.specs.Contracts.{Start}
 use Rattle.host.specs.Sessions.{Call, Made, Session}
 use Rattle.host.specs.Archive.{Instead, Archive}
@@ -33,8 +33,7 @@ flip A =
       steps = λ N C threads. sym (A .steps N C threads);
       promotions = λ N C threads. sym (A .promotions N C threads);
       values = sym (A .values);
-      which = A .which-back;
-      which-back = A .which;
+      which = sym (A .which);
     }
 
 -- a host's call on s, as one of the model's, and the same call on t
@@ -73,11 +72,10 @@ call-again s t w w′ A (Call.run n c threads r steps promotions) v m =
       };
     }
 call-again s t w w′ A (Call.which r) v m =
-    let f = m .0 in
     record {
       call = Model.Call.which;
       leaves = m .1;
-      made = (record { answer = f .answer; right = A .which (f .answer) (f .right); number = f .number }, refl);
+      made = (m .0 ∙ ap stepperOf (A .which), refl);
     }
 call-again s t w w′ A (Call.values vs r vs′) v m =
     record {

@@ -175,7 +175,7 @@ unlent-at s ws N C e = go (lent s ws) refl (lent-can s ws)
 
 -- a choice that is refused, and one that is put to a pool
 module _ (s : List ℕ) (ws : List ℤ) (kind i q : ℕ) (w : List ℤ) (m : Choose s ws kind i q w) where
-  choose-first : (x : Refusal) → lent s ws ≡ Answer.refused x → q ≡ codeOf x
+  pub choose-first : (x : Refusal) → lent s ws ≡ Answer.refused x → q ≡ codeOf x
   unfolding Calls.choose Calls.chosen
   choose-first x e = m .number ∙ ap (λ a. asNumber (Calls.chosen ws a kind i .answer)) e ∙ number-code .refuses x
 

@@ -1,7 +1,7 @@
 -- The laws of specs/Laws: from the numbers that the model's calls can give, and what the macros read in them.
 use Prim.Native.Nat.{ℕ, _^_, _≤_, _<_}
-use mathlib.Core.Path.{_≡_, refl, sym, _∙_, ap}
-use mathlib.Core.Logic.{_⊎_, inl, inr}
+use mathlib.Core.Path.{_≡_, refl, sym, _∙_, ap, subst}
+use mathlib.Core.Logic.{_⊎_, inl, inr, _≢_}
 use mathlib.Core.Bool.{Bool, true, false}
 use mathlib.Core.Option.{Option, none, some}
 use mathlib.Core.List.{List, [], _∷_, _++_}
@@ -17,7 +17,7 @@ use Rattle.model.specs.Syntax.{Function, Program}
 use Rattle.model.specs.Limits.{InFunction}
 use Rattle.model.specs.Pool.{wordsOf, started}
 use Rattle.model.specs.Calls as Calls
-use Rattle.model.specs.Calls.{Choice}
+use Rattle.model.specs.Calls.{Choice, lent}
 use Rattle.model.proofs.Facts.{true-false, refused-given, ne-eqb, leb-true, leb-false, each-at, at-below}
 use Rattle.model.proofs.Words.{started-words}
 use Rattle.model.proofs.Accepted.{check-wf}
@@ -35,7 +35,9 @@ use Rattle.numbering.specs.Means.{Tidies}
 use Rattle.numbering.proofs.Answers.{put-fits, put-short}
 use Rattle.numbering.proofs.Theorem.{tidy-means}
 use Rattle.inference.proofs.Theorem.{completion-means}
-use Rattle.host.specs.Macros.{isGiven, value, number, block, function}
+use Rattle.first.specs.Means.{Steps, Right}
+use Rattle.first.proofs.Means.{right}
+use Rattle.host.specs.Macros.{isGiven, value, number, block, function, step, noThread}
 use Rattle.host.specs.Exports.{done, asNumber, stepperOf, counted, over, written}
 use Rattle.host.specs.Contracts.{Read, Check, Depth, Tidy, Start, Choose, Schedule, Which, Values}
 use Rattle.host.specs.Laws as Laws
@@ -46,9 +48,9 @@ use Rattle.host.proofs.Codes.{Bare, Fits, Gave, number-code, stepper-co
 use Rattle.host.proofs.Codes.{given-in, refused-in, valued, tells, gave, refused}
 use Rattle.host.proofs.Tables.{table-fits, table-told}
 use Rattle.host.proofs.Refusals.{start-fits, start-told, lent-fits, lent-told, pool-below, done-in, done-gave, done-refused}
-use Rattle.host.proofs.Beats.{beat-law, run-law}
+use Rattle.host.proofs.Beats.{choose-first, beat-law, run-law}
 use Rattle.host.proofs.Completion.{complete-law}
-use Rattle.host.proofs.Macros.{read-given, read-refused, done-read, stopped-read, read-done}
+use Rattle.host.proofs.Macros.{given-read, read-given, read-refused, done-read, stopped-read, read-done}
 
 -- what a choice can be refused fits into a number, and what the macros then read
 choice-fits : {s : List ℕ} (q : Refusal) → Numbers.OfChoice s q → Fits q
@@ -428,18 +430,65 @@ eight-most : (o : Option ℕ) → Eight o → thread o ≤ 8
 eight-most none h = omega arith
 eight-most (some i) h = omega arith
 
+-- a step put in its place, by whether it makes a rule
+module _ (s : List ℕ) (ws : List ℤ) (i q : ℕ) (ws′ : List ℤ) (c : Choose s ws step i q ws′) where
+  step-made : Steps s ws i → (isGiven q ≡ true) × Within No.stmt No.prom (value q)
+  step-made (rule, e) =
+      let t = choose-law s ws step i q ws′ c in
+      let g = read-given q (t .answers ∙ e) .0 in
+      (g, ordinary (t .given g))
+    where
+      ordinary : RuleOf step (value q) → Within No.stmt No.prom (value q)
+      ordinary (inl (z, x)) = x
+      ordinary (inr (z, x)) = absurd (omega arith)
+
+  step-stopped : ¬ Steps s ws i → isGiven q ≡ false
+  step-stopped h = go (isGiven q) refl
+    where
+      go : (b : Bool) → isGiven q ≡ b → isGiven q ≡ false
+      go true e = absurd (h (value q, sym (choose-law s ws step i q ws′ c .answers) ∙ given-read q e))
+      go false e = e
+
+-- what is told of the threads
+module _ (s : List ℕ) (ws : List ℤ) where
+  told-steps : (o : Option ℕ) → Right s ws (Answer.given o) → thread o ≢ noThread → Steps s ws (thread o)
+  told-steps none h n = absurd (n refl)
+  told-steps (some i) h n = h .steps
+
+  told-first : (o : Option ℕ) → Right s ws (Answer.given o) → (j : ℕ) → j < thread o → ¬ Steps s ws j
+  told-first none h j l = h .none j
+  told-first (some i) h j l = h .first j l
+
+  told-nobody : (o : Option ℕ) → Eight o → Right s ws (Answer.given o) → thread o ≡ noThread → (j : ℕ) → ¬ Steps s ws j
+  told-nobody none e h n j = h .none j
+  told-nobody (some i) e h n j = absurd (omega (arith, n))
+
 pub which-law : (s : List ℕ) (ws : List ℤ) (r : ℕ) → Which s ws r → WhichTells s ws r
-which-law s ws r f =
-    let a = f .answer in
+which-law s ws r e =
+    let a = Calls.which s ws in
     let R = Numbers.OfLent s in
-    let can = which-can s ws a (f .right) in
-    let reads : threadIn (answerIn (stepperOf a)) ≡ a =
-    ap threadIn (tells stepper-code Eight R eight-room lent-fits a can) ∙ thread-in a R can in
-    rw (f .number)
+    let can = which-can s ws in
+    let found : isGiven (stepperOf a) ≡ true → Gave thread Eight a (stepperOf a) = gave stepper-code Eight R eight-room lent-fits a can in
+    let is : (v : Gave thread Eight a (stepperOf a)) → Right s ws (Answer.given (v .what)) = λ v. subst (Right s ws) (v .is) (right s ws) in
+    rw e
     (record {
-      answers = rw reads (f .right);
-      given = λ e. let v = gave stepper-code Eight R eight-room lent-fits a can e in rw (v .told) (eight-most (v .what) (v .has));
-      refused = λ e. let q = refused stepper-code Eight R eight-room lent-fits a can e in rw (q .told) (lent-told (q .has));
+      answers = ap threadIn (tells stepper-code Eight R eight-room lent-fits a can) ∙ thread-in a R can;
+      given = λ g. let v = found g in rw (v .told) (eight-most (v .what) (v .has));
+      steps = λ g n q ws′ c.
+          let v = found g in
+          step-made s ws (value (stepperOf a)) q ws′ c
+          (subst (Steps s ws) (sym (v .told)) (told-steps s ws (v .what) (is v) (λ z. n (v .told ∙ z))));
+      first = λ g i l q ws′ c.
+          let v = found g in
+          step-stopped s ws i q ws′ c (told-first s ws (v .what) (is v) i (omega (arith, l, v .told)));
+      nobody = λ g n i q ws′ c.
+          let v = found g in
+          step-stopped s ws i q ws′ c (told-nobody s ws (v .what) (v .has) (is v) (sym (v .told) ∙ n) i);
+      refused = λ g. let q = refused stepper-code Eight R eight-room lent-fits a can g in rw (q .told) (lent-told (q .has));
+      same = λ g kind i q ws′ c.
+          let x = refused stepper-code Eight R eight-room lent-fits a can g in
+          let lends : lent s ws ≡ Answer.refused (x .what) = subst (Right s ws) (x .is) (right s ws) in
+          choose-first s ws kind i q ws′ c (x .what) lends ∙ sym (x .told);
     })
 
 -- main's values

@@ -10,6 +10,7 @@ pub mod Sessions
 pub mod Roomy
 pub mod Tokens
 pub mod Archive
+pub mod First
 pub mod Places
 pub mod Singly
 pub mod Children

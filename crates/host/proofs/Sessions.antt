@@ -6,7 +6,7 @@ use mathlib.Core.Bool.{Bool, true, false}
 use mathlib.Core.Option.{Option, none, some}
 use mathlib.Core.List.{List, [], _∷_, _++_, append-assoc}
 use native.Mathlib.Omega.{arith}
-use lib.Dec.{eqb, lit≤}
+use lib.Dec.{lit≤}
 use lib.Arith.{lt-of-le-ne}
 use lib.IntN.{ℤ}
 use lib.ListN.{length}
@@ -19,12 +19,14 @@ use Rattle.model.specs.Pool.{Pool, wordsOf}
 use Rattle.model.specs.Rules.{Result, choice, mainValues}
 use Rattle.model.specs.Calls as Calls
 use Rattle.model.specs.Calls.{Called, Choice, Lent, lent}
-use Rattle.model.proofs.Facts.{ne-eqb, each-left, each-right, some-injective, refused-given}
+use Rattle.model.proofs.Facts.{each-left, each-right, some-injective, refused-given}
 use Rattle.model.proofs.Guarantees.{read-limits}
 use Rattle.model.proofs.Words.{lent-words, lent-given}
 use Rattle.model.proofs.Kept.{OnSome, choice-kept, choose-lent}
 use Rattle.model.proofs.Numbers as Numbers
 use Rattle.model.proofs.Numbers.{read-heading, steps-there, step-there, values-can}
+use Rattle.first.specs.Means.{Nobody, Right}
+use Rattle.first.proofs.Means.{right}
 use Rattle.safety.specs.NeverJams as Model
 use Rattle.safety.specs.NeverJams.{left, finally, whileGiven, ofSchedule, ofCall, choices}
 use Rattle.safety.proofs.Theorem.{demand3, now, always-pool, waiting-moves}
@@ -181,14 +183,15 @@ module _ (s : List ℕ) (w : List ℤ) (lends : (l : Lent) × (lent s w ≡ Answ
       go (inr x) = let (i, k) = run-step s w n c threads r steps made w′ m e x in inr (a i r _ k e x)
 
   which-given : (r : ℕ) → Which s w r → isGiven r ≡ true
-  unfolding Calls.Which threadIn
+  unfolding threadIn
   which-given r m = go (isGiven r) refl
     where
       go : (b : Bool) → isGiven r ≡ b → isGiven r ≡ true
       go true e = e
       go false e =
-          let right : Calls.Which s w (Answer.refused (refusalIn r)) = rw (refused-read r e) at (which-law s w r m .answers) in
-          refused-given (sym right ∙ lends .1)
+          let is : Calls.which s w ≡ Answer.refused (refusalIn r) = sym (which-law s w r m .answers) ∙ ap threadIn (refused-read r e) in
+          let refused : lent s w ≡ Answer.refused (refusalIn r) = subst (Right s w) is (right s w) in
+          refused-given (sym refused ∙ lends .1)
 
   values-given : (vs : List ℤ) (r : ℕ) (vs′ : List ℤ) {o : Option (List ℤ)} → Calls.values s w ≡ Answer.given o → Values s w vs r vs′ →
       (isGiven r ≡ true) × (value r ≡ count o)
@@ -212,7 +215,7 @@ module _ (s : List ℕ) (w : List ℤ) (lends : (l : Lent) × (lent s w ≡ Answ
   can-step c =
       record {
         thread = c .thread;
-        there = steps-there s w (c .thread) (c .rule, c .makes);
+        there = steps-there s w (c .thread) (c .rule) (c .makes);
         makes = λ r w′ m.
             let (g, v) = read-given r (choose-law s w 0 (c .thread) r w′ m .answers ∙ c .makes) in
             (g, rw v (c .ordinary));
@@ -236,10 +239,13 @@ module _ (s : List ℕ) (w : List ℤ) (lends : (l : Lent) × (lent s w ≡ Answ
 
   -- what mezdaulk_which tells
   pub none-steps : (r : ℕ) → Which s w r → value r ≡ noThread → ¬ Model.CanStep s w
-  unfolding Calls.Which threadIn
+  unfolding threadIn
   none-steps r m e c =
-      let right : Calls.Which s w (Answer.given none) = rw (given-read r (which-given r m), e) at (which-law s w r m .answers) in
-      right .1 (c .thread) (c .rule, c .makes)
+      let is : Calls.which s w ≡ Answer.given none =
+      sym (which-law s w r m .answers) ∙ ap threadIn (given-read r (which-given r m) ∙ ap Answer.given e)
+      in
+      let nobody : Nobody s w = subst (Right s w) is (right s w) in
+      nobody .none (c .thread) (c .rule, c .makes)
 
   nobody : Model.Stands s w → (r : ℕ) → Which s w r → value r ≡ noThread → Returned s w ⊎ OutOfFrames s w
   nobody t r m e = go t
@@ -248,22 +254,6 @@ module _ (s : List ℕ) (w : List ℤ) (lends : (l : Lent) × (lent s w ≡ Answ
       go (inl d) = inl (returned d)
       go (inr (inl c)) = absurd (none-steps r m e c)
       go (inr (inr o)) = inr (out-of-frames o)
-
-  somebody : (r : ℕ) → Which s w r → value r ≢ noThread → (q : ℕ) (w′ : List ℤ) → Choose s w step (value r) q w′ →
-      (isGiven q ≡ true) × Within No.stmt No.prom (value q)
-  unfolding Calls.Which threadIn
-  somebody r m e q w′ c =
-      let p : eqb (value r) noThread ≡ false = ne-eqb (value r) noThread e in
-      let right : Calls.Which s w (Answer.given (some (value r))) =
-      rw (given-read r (which-given r m), p) at (which-law s w r m .answers)
-      in
-      let t = choose-law s w step (value r) q w′ c in
-      let g = read-given q (t .answers ∙ right .1) .0 in
-      (g, ordinary (t .given g))
-    where
-      ordinary : No.RuleOf step (value q) → Within No.stmt No.prom (value q)
-      ordinary (inl (z, x)) = x
-      ordinary (inr (z, x)) = absurd (omega arith)
 
   -- a step that waits
   pub waits : (thread r : ℕ) (w′ : List ℤ) → Choose s w step thread r w′ → isGiven r ≡ false → number r ≡ No.waits →
@@ -324,7 +314,6 @@ module _ (s : List ℕ) (ws : List ℤ) (h : Calls.check s ≡ Answer.given tt) 
         answered = a;
         stands = stands s w′ lends t;
         nobody = nobody s w′ lends t;
-        somebody = somebody s w′ lends;
         waiting = λ i r v m e k. moves s w′ lends (reached-waiting s ws h n g′ i (waits s w′ lends i r v m e k));
       }
 

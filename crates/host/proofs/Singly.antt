@@ -30,7 +30,7 @@ use Rattle.host.specs.Laws.{refusalIn, beatIn}
 use Rattle.host.specs.Sessions.{Call, Made}
 use Rattle.host.specs.Children.{Put, LogBy, Log, Exactly, Singly, OneByOne, Turn, turnOf, ofBeat, ofBeats, CountsAs, Plain}
 use Rattle.host.specs.Children.{EverySession}
-use Rattle.host.specs.Tokens.{Beaten}
+use Rattle.host.specs.Tokens.{BeatLog}
 use Rattle.host.proofs.Macros.{given-read, read-given}
 use Rattle.host.proofs.Beats.{beat-law}
 use Rattle.host.proofs.Laws.{choose-law}
@@ -187,7 +187,7 @@ module _ (s : List ℕ) where
       rw (← turns-read i r _ (beat-law s ws i n c r w m .answers), m .words) (as-through (beat-as s ws i n c))
 
   -- beats one by one
-  beaten-through : (n c : ℕ) (ws : List ℤ) (is rs : List ℕ) (w : List ℤ) → Beaten s n c ws is rs w →
+  beaten-through : (n c : ℕ) (ws : List ℤ) (is rs : List ℕ) (w : List ℤ) → BeatLog s n c ws is rs w →
       Through ws (ofBeats is rs) w
   beaten-through n c ws [] [] w e = none-through e
   beaten-through n c ws [] (r ∷ rs) w x = absurd x

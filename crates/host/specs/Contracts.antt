@@ -12,7 +12,7 @@ use Rattle.numbering.specs.Tidy.{tidy}
 use Rattle.inference.specs.Complete.{complete}
 use Rattle.tokens.specs.Beats as Beats
 use Rattle.host.specs.Exports as Exports
-use Rattle.host.specs.Exports.{done, asNumber, beatNumber, Gives, Writes, Completes, Finds, Tells, Runs}
+use Rattle.host.specs.Exports.{done, asNumber, beatNumber, stepperOf, Gives, Writes, Completes, Tells, Runs}
 
 abbrev pub Read : List ℕ → ℕ → Type 0
 Read s r = r ≡ done (outcome (Calls.read s))
@@ -50,7 +50,7 @@ abbrev pub Run : List ℕ → List ℤ → ℕ → ℕ → List ℕ → ℕ → 
 Run s ws n c threads r made ws′ = Runs (Beats.run s ws n c threads) r made ws′
 
 abbrev pub Which : List ℕ → List ℤ → ℕ → Type 0
-Which s ws r = Finds s ws r
+Which s ws r = r ≡ stepperOf (Calls.which s ws)
 
 -- the words lent for main's values before and afterwards
 abbrev pub Values : List ℕ → List ℤ → List ℤ → ℕ → List ℤ → Type 0

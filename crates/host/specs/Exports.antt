@@ -7,7 +7,7 @@ use lib.IntN.{ℤ}
 use lib.ListN.{length}
 use Rattle.model.specs.Answers.{Answer}
 use Rattle.model.specs.Calls as Calls
-use Rattle.model.specs.Calls.{Called, Which}
+use Rattle.model.specs.Calls.{Called}
 use Rattle.numbering.specs.Tidy.{Wrote}
 use Rattle.inference.specs.Complete.{Completed}
 use Rattle.tokens.specs.Beats.{Beat, Told}
@@ -29,7 +29,7 @@ unfoldable pub beatNumber : Answer Beat → ℕ
 beatNumber (Answer.given b) = given (b .rule + 256 * b .promotions)
 beatNumber (Answer.refused r) = codeOf r
 
--- the thread that can step, or that there is none
+-- the first thread that can step, or that there is none
 unfoldable pub stepperOf : Answer (Option ℕ) → ℕ
 stepperOf (Answer.given (some i)) = given i
 stepperOf (Answer.given none) = given noThread
@@ -68,12 +68,6 @@ pub record Completes (c : Completed) (r : ℕ) (out words : List ℕ) : Type 0 w
   pub number : r ≡ asNumber (c .answer)
   pub bytes : out ≡ c .out
   pub scratch : words ≡ c .words
-
--- the number of some right answer to which thread can step
-pub record Finds (s : List ℕ) (ws : List ℤ) (r : ℕ) : Type 0 where
-  pub answer : Answer (Option ℕ)
-  pub right : Which s ws answer
-  pub number : r ≡ stepperOf answer
 
 -- main's values: the number, and the words lent for them, before and afterwards
 pub record Values (a : Answer (Option (List ℤ))) (ws : List ℤ) (r : ℕ) (ws′ : List ℤ) : Type 0 where

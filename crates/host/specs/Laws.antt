@@ -38,7 +38,7 @@ refusalIn r =
 unfoldable pub answerIn : ℕ → Answer ℕ
 answerIn r = cond (isGiven r) (Answer.given (value r)) (Answer.refused (refusalIn r))
 
--- the value as a thread that can step
+-- the value as the first thread that can step
 unfoldable pub threadIn : Answer ℕ → Answer (Option ℕ)
 threadIn (Answer.given v) = Answer.given (cond (eqb v noThread) none (some v))
 threadIn (Answer.refused q) = Answer.refused q
@@ -215,11 +215,18 @@ pub record RunTells (s : List ℕ) (ws : List ℤ) (n c : ℕ) (threads : List �
   pub stops : isGiven r ≡ false → Within No.thread No.stuck (number r) → StopsAtBeat s ws′ n c threads r steps
   pub unpaced : ¬ Pace n c → Unpaced s ws r
 
--- mezdaulk_which: a right answer; its value is a thread below 8 whose step makes a rule, or 8 exactly for none
+-- mezdaulk_which: the value is the first thread that can step, or 8 for none. A step of that thread, put to mezdaulk_choose in its place,
+-- is given one of the rules 1 to 9; a step of a lower number is refused; and where there is none that of every number is. Where it is
+-- refused every choice in its place is refused the same number
 pub record WhichTells (s : List ℕ) (ws : List ℤ) (r : ℕ) : Type 0 where
-  pub answers : Calls.Which s ws (threadIn (answerIn r))
+  pub answers : threadIn (answerIn r) ≡ Calls.which s ws
   pub given : isGiven r ≡ true → value r ≤ noThread
+  pub steps : isGiven r ≡ true → value r ≢ noThread → (q : ℕ) (ws′ : List ℤ) → Choose s ws step (value r) q ws′ →
+      (isGiven q ≡ true) × Within No.stmt No.prom (value q)
+  pub first : isGiven r ≡ true → (i : ℕ) → i < value r → (q : ℕ) (ws′ : List ℤ) → Choose s ws step i q ws′ → isGiven q ≡ false
+  pub nobody : isGiven r ≡ true → value r ≡ noThread → (i q : ℕ) (ws′ : List ℤ) → Choose s ws step i q ws′ → isGiven q ≡ false
   pub refused : isGiven r ≡ false → OfPool s r
+  pub same : isGiven r ≡ false → (kind thread q : ℕ) (ws′ : List ℤ) → Choose s ws kind thread q ws′ → q ≡ r
 
 -- mezdaulk_values: the value is how many there are, and they stand in the first words; 255 exactly for open. Words behind them
 -- stay, and nothing is written where they are open or refused

@@ -5,5 +5,6 @@ pub mod Laws
 pub mod Sessions
 pub mod Roomy
 pub mod Archive
+pub mod First
 pub mod Tokens
 pub mod Children

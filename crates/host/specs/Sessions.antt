@@ -75,14 +75,12 @@ abbrev pub Stands : List ℕ → List ℤ → Type 0
 Stands s ws = Returned s ws ⊎ (CanStep s ws ⊎ OutOfFrames s ws)
 
 -- what is claimed of a session that left the words ws: how its calls were answered, and how the words stand. Of a call put next:
--- where mezdaulk_which tells no thread, main has returned or a thread is out of frames; where it tells a thread, that thread's step
--- is made; and where a step is refused 17, some thread can step or is out of frames
+-- where mezdaulk_which tells no thread, main has returned or a thread is out of frames; and where a step is refused 17, some thread can
+-- step or is out of frames
 pub record Safe (s : List ℕ) (cs : List Call) (ws : List ℤ) : Type 0 where
   pub answered : Each Answered cs
   pub stands : Stands s ws
   pub nobody : (r : ℕ) → Which s ws r → value r ≡ noThread → Returned s ws ⊎ OutOfFrames s ws
-  pub somebody : (r : ℕ) → Which s ws r → value r ≢ noThread →
-      (q : ℕ) (ws′ : List ℤ) → Choose s ws step (value r) q ws′ → (isGiven q ≡ true) × Within No.stmt No.prom (value q)
   pub waiting : (thread r : ℕ) (ws′ : List ℤ) → Choose s ws step thread r ws′ → isGiven r ≡ false → number r ≡ No.waits →
       CanStep s ws ⊎ OutOfFrames s ws
 

@@ -47,12 +47,12 @@ Exhausts =
 
 -- beats of these threads one after another, the first lent the words ws and each next one the words that the one before left, up to the
 -- words ws′; the numbers that they were answered, all of them given
-abbrev pub Beaten : List ℕ → ℕ → ℕ → List ℤ → List ℕ → List ℕ → List ℤ → Type 0
-Beaten s n c ws [] [] ws′ = ws ≡ ws′
-Beaten s n c ws [] (r ∷ rs) ws′ = ⊥
-Beaten s n c ws (i ∷ is) [] ws′ = ⊥
-Beaten s n c ws (i ∷ is) (r ∷ rs) ws′ =
-    (isGiven r ≡ true) × ((between : List ℤ) × Beat s ws i n c r between × Beaten s n c between is rs ws′)
+abbrev pub BeatLog : List ℕ → ℕ → ℕ → List ℤ → List ℕ → List ℕ → List ℤ → Type 0
+BeatLog s n c ws [] [] ws′ = ws ≡ ws′
+BeatLog s n c ws [] (r ∷ rs) ws′ = ⊥
+BeatLog s n c ws (i ∷ is) [] ws′ = ⊥
+BeatLog s n c ws (i ∷ is) (r ∷ rs) ws′ =
+    (isGiven r ≡ true) × ((between : List ℤ) × Beat s ws i n c r between × BeatLog s n c between is rs ws′)
 
 unfoldable pub sum : List ℕ → ℕ
 sum [] = 0
@@ -61,7 +61,7 @@ sum (n ∷ ns) = n + sum ns
 -- a run as beats put one by one: as many as it made steps, in its order, with as many promotions; and they leave the same words
 pub record AsBeats (s : List ℕ) (ws : List ℤ) (n c : ℕ) (threads : List ℕ) (steps made : ℕ) (ws′ : List ℤ) : Type 0 where
   pub numbers : List ℕ
-  pub beats : Beaten s n c ws (take steps threads) numbers ws′
+  pub beats : BeatLog s n c ws (take steps threads) numbers ws′
   pub counted : length numbers ≡ steps
   pub promoted : sum (map promotions numbers) ≡ made
 

@@ -5,9 +5,8 @@ use mathlib.Core.List.{List, [], _∷_}
 use lib.IntN.{ℤ}
 use Rattle.model.specs.Answers.{Answer}
 use Rattle.model.specs.Pool.{mostThreads}
-use Rattle.model.specs.Calls.{Called, Which}
-use Rattle.calls.specs.declared.Stepping.{Stepping}
-use Rattle.calls.specs.Calls.{called, steppingOf}
+use Rattle.model.specs.Calls.{Called}
+use Rattle.calls.specs.Calls.{called}
 use Rattle.numbering.specs.Tidy.{Wrote}
 use Rattle.inference.specs.Complete.{Completed}
 use Rattle.answers.specs.declared.Written.{Written}
@@ -20,7 +19,7 @@ use Rattle.beats.specs.declared.Ran.{Ran}
 use Rattle.beats.specs.Beating.{beatenOf, calledOf, toldOf}
 use Rattle.tidy.specs.Writes as Tidy
 use Rattle.complete.specs.Writes as Complete
-use Rattle.host.specs.Exports.{done, asNumber, stepperOf, Gives, Writes, Completes, Finds, Runs}
+use Rattle.host.specs.Exports.{done, asNumber, Gives, Writes, Completes, Runs}
 use Rattle.mezdaulk.specs.Reports.{RunReports}
 
 -- the number of the case that was found is that of the answer
@@ -52,10 +51,6 @@ runs {t} {n} {made} r {ws} h e =
       counts = x .counts ∙ ap (λ (y : Told). y .steps ∷ y .promotions ∷ []) e;
       words = ap (λ (y : Told). y .after) e;
     }
-
--- the answer that is left to the program
-pub finds : {s : List ℕ} {ws : List ℤ} {n : ℕ} (r : Stepping) → Which s ws (steppingOf r) → n ≡ stepperOf (steppingOf r) → Finds s ws n
-finds r h d = record { answer = steppingOf r; right = h; number = d }
 
 -- a call that leaves bytes
 pub wrote : {w : Wrote} {n : ℕ} (r : Written) {out : List ℕ} → Tidy.Writes w r out → n ≡ asNumber (writtenOf r) → Writes w n out

@@ -12,6 +12,7 @@ pub mod Printed
 pub mod Valid
 pub mod Words
 pub mod Kept
+pub mod Lowest
 pub mod Few
 pub mod Schedules
 pub mod Numbers

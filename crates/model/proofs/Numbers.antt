@@ -1,6 +1,6 @@
 -- Which numbers a call can give, for all bytes, words and choices: the refusals with their places, and what is given.
 use Prim.Native.Nat.{ℕ, zero, suc, _+_, _≤_, _<_}
-use mathlib.Core.Path.{_≡_, refl, sym, _∙_, ap, subst}
+use mathlib.Core.Path.{_≡_, refl, sym, _∙_, ap}
 use mathlib.Core.Logic.{_⊎_, inl, inr, _≢_}
 use mathlib.Core.Bool.{Bool, true, false, _&&_, cond}
 use mathlib.Core.Option.{Option, none, some}
@@ -31,7 +31,7 @@ use Rattle.model.specs.Frames.{look, lookAll, eval, deque, enter, callee
 use Rattle.model.specs.Rules
 use Rattle.model.specs.Rules.{Act, by, acts, act, Result, choice, mainValues}
 use Rattle.model.specs.Calls
-use Rattle.model.specs.Calls.{Lent, lent, check, Choice, Steps, Which}
+use Rattle.model.specs.Calls.{Lent, lent, check, Choice, canStep, first}
 use Rattle.model.proofs.Facts.{refused-given, none-some, and-left, and-right, leb-true, ltb-true, each-at, at-below}
 use Rattle.model.proofs.Reading.{next-ok, byte-ok, many-item, many-length, ok-offset}
 use Rattle.model.proofs.Guarantees
@@ -39,6 +39,7 @@ use Rattle.model.proofs.Guarantees.{Gives, gives-pure, gives-then, give
 use Rattle.model.proofs.Valid.{pool-facts}
 use Rattle.model.proofs.Words.{lent-given, lent-words}
 use Rattle.model.proofs.Kept.{OnSome, on-bind, on-is, on-when, choose-lent}
+use Rattle.model.proofs.Lowest.{Found, lowest-found}
 use Rattle.model.proofs.Schedules.{run-kept}
 
 -- a range, from its test
@@ -690,20 +691,27 @@ module _ (s : List ℕ) (ws : List ℤ) where
       let there = thread-there (Rules.step (l .table)) (l .pool) i λ m. h (rw (e, m) refl) in
       omega arith
 
-  pub steps-there : (i : ℕ) → Steps s ws i → i < mostThreads
+  pub steps-there : (i rule : ℕ) → Calls.choose s ws 0 i .answer ≡ Answer.given rule → i < mostThreads
   unfolding Calls.choose Calls.chosen
-  steps-there i h = go (lent s ws) refl (h .1)
+  steps-there i rule h = go (lent s ws) refl h
     where
-      go : (a : Answer Lent) → lent s ws ≡ a → Calls.chosen ws a 0 i .answer ≡ Answer.given (h .0) → i < mostThreads
-      go (Answer.given l) e m = step-there i l e λ n. refused-given (sym n ∙ h .1)
+      go : (a : Answer Lent) → lent s ws ≡ a → Calls.chosen ws a 0 i .answer ≡ Answer.given rule → i < mostThreads
+      go (Answer.given l) e m = step-there i l e λ n. refused-given (sym n ∙ h)
       go (Answer.refused q) e m = refused-given m
 
   -- one of the eight threads
-  pub which-can : (a : Answer (Option ℕ)) → Which s ws a → Can (OnSome (λ i. i < mostThreads)) (OfLent s) a
-  unfolding Which
-  which-can (Answer.given (some i)) h = steps-there i h
-  which-can (Answer.given none) h = tt
-  which-can (Answer.refused q) h = subst (Can Any (OfLent s)) h lent-can
+  pub which-can : Can (OnSome (λ i. i < mostThreads)) (OfLent s) (Calls.which s ws)
+  unfolding Calls.which first
+  which-can =
+      can-with (OnSome (λ i. i < mostThreads)) (lent s ws) _ lent-can (λ q h. h) λ l e.
+      there (l .table) (l .pool) (pool-facts (l .table) (l .pool) (lent-given s ws l e .valid) .few)
+    where
+      there : (P : Program) (p : Pool) → length p ≤ mostThreads → OnSome (λ i. i < mostThreads) (first P p)
+      there P p few = go (first P p) (lowest-found (canStep P p) (length p) 0)
+        where
+          go : (o : Option ℕ) → Found (canStep P p) (length p) 0 o → OnSome (λ i. i < mostThreads) o
+          go none h = tt
+          go (some i) h = omega (arith, few, h .below)
 
 -- a list of choices: all are made; or the one behind those made is refused, by the pool that they left
 abbrev RanOf : Program → List Choice → ℕ → Option ℕ → Pool → Type 0

@@ -3,7 +3,7 @@
 use Prim.Native.Nat.{ℕ, _+_, _-_}
 use mathlib.Core.Path.{_≡_, refl}
 use mathlib.Core.Option.{Option, none, some}
-use mathlib.Core.List.{List, [], _∷_, _++_}
+use mathlib.Core.List.{List, [], _∷_, _++_, map}
 use lib.IntN.{ℤ, pos, negsuc}
 use lib.ListN.{replicate, set, take, drop}
 use Rattle.model.specs.Numbers as No
@@ -23,7 +23,7 @@ use Rattle.model.specs.Calls as Calls
 use Rattle.model.specs.Answers.{Refusal, Answer}
 use Rattle.model.specs.Lists.{Each}
 use Rattle.model.specs.Pool.{mostWork, mostTokens, workAt, tokensAt, poolWords, threadStart}
-use Rattle.model.specs.Calls.{Choice, check, start, choose, values}
+use Rattle.model.specs.Calls.{Choice, check, start, choose, schedule, values, which}
 
 -- every definition that a run computes with
 unfoldable pub all : Type 0
@@ -40,10 +40,10 @@ unfolding Answers.numberOf Answers.with Lists.all Lists.equal Lists.unsnoc Lists
     Pool.arePool Pool.started Frames.when Frames.look Frames.lookAll Frames.evalAtom Frames.eval Frames.bind Frames.bindAll Frames.goTo
     Frames.deque Frames.entering Frames.enter Frames.callee Rules.by Rules.acts Rules.stmt Rules.goto Rules.branch Rules.if Rules.call
     Rules.return Rules.spork Rules.closing Rules.spoin Rules.transfer Rules.coming Rules.act Rules.returned Rules.ended Rules.onTop
-    Rules.popping Rules.joining Rules.joins Rules.apply Rules.step Rules.promoteIn Rules.orElse Rules.oldest Rules.child Rules.spawned Rules.promoting
-    Rules.promote Rules.behind Rules.onThread Rules.choice Rules.mainValues Calls.check Calls.measured Calls.valid Calls.lent
-    Calls.lentWords Calls.starting Calls.start Calls.made Calls.chosen Calls.choose Calls.goOn Calls.run Calls.stopped Calls.reported
-    Calls.scheduled Calls.schedule Calls.values
+    Rules.popping Rules.joining Rules.joins Rules.apply Rules.step Rules.promoteIn Rules.orElse Rules.oldest Rules.child Rules.spawned
+    Rules.promoting Rules.promote Rules.behind Rules.onThread Rules.choice Rules.mainValues Calls.check Calls.measured Calls.valid
+    Calls.lent Calls.lentWords Calls.starting Calls.start Calls.made Calls.chosen Calls.choose Calls.goOn Calls.run Calls.stopped
+    Calls.reported Calls.scheduled Calls.schedule Calls.values Calls.lowest Calls.isMade Calls.first Calls.which
 all = Unit {0}
 
 -- the answers to choices put one after another, each with the words as the one before left them; and then main's values
@@ -579,3 +579,31 @@ purses =
 pub purses-right : Each Right purses
 unfolding all
 purses-right = (refl, (refl, (refl, (refl, (refl, (refl, (refl, (refl, tt))))))))
+
+-- which thread can step: the table, the pool's length and the pool are judged in this order; of two that can it is the lower; it is
+-- thread 1 where 0 waits, and none where 0 has ended
+pub record Asked : Type 0 where
+  pub table : List ℕ
+  pub words : List ℤ
+  pub answer : Answer (Option ℕ)
+
+abbrev asked : List ℕ → List ℤ → Answer (Option ℕ) → Asked
+asked s ws a = record { table = s; words = ws; answer = a }
+
+abbrev left : List ℕ → List Choice → List ℤ
+left s cs = schedule s (begun s) cs .after
+
+abbrev pub questions : List Asked
+questions =
+    asked [] [] (Answer.refused (Refusal.plain No.size)) ∷
+    asked B [] (Answer.refused (Refusal.plain No.words)) ∷
+    asked B blank (Answer.refused (Refusal.plain No.pool)) ∷
+    asked B (begun B) (Answer.given (some 0)) ∷
+    asked tree (left tree (step 0 ∷ step 0 ∷ step 0 ∷ step 0 ∷ step 0 ∷ promote 0 ∷ [])) (Answer.given (some 0)) ∷
+    asked B (left B (step 0 ∷ promote 0 ∷ [])) (Answer.given (some 1)) ∷
+    asked A (left A (step 0 ∷ [])) (Answer.given none) ∷
+    []
+
+pub questions-right : map (λ q. which (q .table) (q .words)) questions ≡ map (λ q. q .answer) questions
+unfolding all
+questions-right = refl

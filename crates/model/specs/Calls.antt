@@ -1,8 +1,7 @@
 -- What each public call answers, and what it leaves in the lent words: for all bytes, words and numbers. Tables are never
 -- changed. The order of refusals: table, pool length, pool, choice.
-use Prim.Native.Nat.{ℕ, _+_}
-use mathlib.Core.Path.{_≡_}
-use mathlib.Core.Bool.{cond}
+use Prim.Native.Nat.{ℕ, zero, suc, _+_}
+use mathlib.Core.Bool.{Bool, true, false, cond}
 use mathlib.Core.Option.{Option, none, some}
 use mathlib.Core.List.{List, [], _∷_}
 use lib.Dec.{eqb}
@@ -117,12 +116,23 @@ schedule s ws cs = scheduled ws (lent s ws) cs
 unfoldable pub values : List ℕ → List ℤ → Answer (Option (List ℤ))
 values s ws = with (lent s ws) λ l. Answer.given (mainValues (l .table) (l .pool))
 
--- which thread can step: 1 to 3, 12, 13. The answer is left to the program: any thread whose step makes a rule, or none
--- exactly if there is none. Nothing is written
-abbrev pub Steps : List ℕ → List ℤ → ℕ → Type 0
-Steps s ws i = (rule : ℕ) × (choose s ws 0 i .answer ≡ Answer.given rule)
+-- the lowest of n numbers, from i on, that passes the test
+unfoldable pub lowest : (ℕ → Bool) → ℕ → ℕ → Option ℕ
+lowest t zero i = none
+lowest t (suc n) i = cond (t i) (some i) (lowest t n (i + 1))
 
-unfoldable pub Which : List ℕ → List ℤ → Answer (Option ℕ) → Type 0
-Which s ws (Answer.given (some i)) = Steps s ws i
-Which s ws (Answer.given none) = ((l : Lent) × (lent s ws ≡ Answer.given l)) × ((i : ℕ) → ¬ Steps s ws i)
-Which s ws (Answer.refused r) = lent s ws ≡ Answer.refused r
+-- a choice made, or refused
+unfoldable pub isMade : Result → Bool
+isMade (Result.made rule p) = true
+isMade (Result.refused n) = false
+
+-- the first thread that can step: the lowest-numbered whose step makes a rule
+abbrev pub canStep : Program → Pool → ℕ → Bool
+canStep P p i = isMade (choice P p 0 i)
+
+unfoldable pub first : Program → Pool → Option ℕ
+first P p = lowest (canStep P p) (length p) 0
+
+-- which thread can step: 1 to 3, 12, 13; the first, or none. Nothing is written
+unfoldable pub which : List ℕ → List ℤ → Answer (Option ℕ)
+which s ws = with (lent s ws) λ l. Answer.given (first (l .table) (l .pool))

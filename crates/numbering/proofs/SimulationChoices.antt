@@ -1,7 +1,7 @@
 -- One choice, under two numberings: of a pool with kept things alone, the pool under new numbers is answered the same, and what is
 -- made of it is what is made of the first, under new numbers.
 use Prim.Native.Nat.{ℕ, zero, suc, _+_}
-use mathlib.Core.Path.{_≡_, refl, ap}
+use mathlib.Core.Path.{_≡_, refl, _∙_, ap}
 use mathlib.Core.Bool.{Bool, true, false, cond}
 use mathlib.Core.Option.{Option, none, some, Option·map}
 use mathlib.Core.List.{List, [], _∷_, map}
@@ -15,9 +15,10 @@ use Rattle.model.specs.Pool.{Frame, Thread, Pool, mostFrames, mostThreads, fram
 use Rattle.model.specs.Frames.{_>>=_, lookAll, deque}
 use Rattle.model.specs.Rules
 use Rattle.model.specs.Rules.{Act, act, Result, Promotion, ended, choice, mainValues}
-use Rattle.model.specs.Calls.{Choice, Ran, oneMore, goOn, run}
+use Rattle.model.specs.Calls.{Choice, Ran, oneMore, goOn, run, isMade, canStep, first}
 use Rattle.model.proofs.Facts.{each-at, map-at}
 use Rattle.model.proofs.Kept.{OnSome}
+use Rattle.model.proofs.Lowest.{lowest-alike}
 use Rattle.numbering.specs.Renamed as Renamed
 use Rattle.numbering.specs.Renumbers.{Numbering, BlockKept, SpawnKept, Copies, renamedFrame, renamedThread, renamedPool}
 use Rattle.numbering.proofs.SimulationStates.{KeptFrame, KeptThread, KeptPool}
@@ -240,6 +241,19 @@ module _ {R : Numbering} {P Q : Program} (c : Copies R P Q) where
       let room = ltb (length p) mostThreads in
       rw (length-map p (renamedThread R)) (on-follows R (Rules.promote P room) (Rules.promote Q room) (promote-follows room) p i h)
   choice-follows p (suc (suc kind)) i h = record { same = refl; kept = tt }
+
+  -- the first thread that can step
+  pub first-follows : (p : Pool) → KeptPool R p → first Q (renamedPool R p) ≡ first P p
+  unfolding first isMade renamedResult
+  first-follows p h =
+      rw (length-map p (renamedThread R)) (lowest-alike (canStep Q (renamedPool R p)) (canStep P p) same (length p) 0)
+    where
+      made-same : (x : Result) → isMade (renamedResult R x) ≡ isMade x
+      made-same (Result.made rule q) = refl
+      made-same (Result.refused n) = refl
+
+      same : (i : ℕ) → canStep Q (renamedPool R p) i ≡ canStep P p i
+      same i = ap isMade (choice-follows p 0 i h .same) ∙ made-same (choice P p 0 i)
 
   -- main's values
   pub values-follow : (p : Pool) → KeptPool R p → mainValues Q (renamedPool R p) ≡ mainValues P p

@@ -3,7 +3,6 @@
 use Prim.Native.Nat.{ℕ}
 use mathlib.Core.Path.{_≡_, refl, sym, _∙_, ap, ap₂}
 use mathlib.Core.Bool.{Bool, true, false, cond}
-use mathlib.Core.Option.{Option, none, some}
 use mathlib.Core.List.{List, [], _∷_, _++_, map, map-append}
 use lib.IntN.{ℤ}
 use lib.ListN.{length, replicate, length-map}
@@ -14,8 +13,8 @@ use Rattle.model.specs.Syntax.{Program}
 use Rattle.model.specs.Pool.{Pool, poolWords, wordsOf, begin, isPool, started}
 use Rattle.model.specs.Rules.{Result, choice}
 use Rattle.model.specs.Calls as Calls
-use Rattle.model.specs.Calls.{Called, Choice, Lent, lent, read, made, run, reported, scheduled, Which}
-use Rattle.model.proofs.Facts.{true-false, refused-given}
+use Rattle.model.specs.Calls.{Called, Choice, lent, read, made, run, reported, scheduled}
+use Rattle.model.proofs.Facts.{true-false}
 use Rattle.model.proofs.Guarantees.{read-limits}
 use Rattle.model.proofs.Words.{lent-given, lent-words, started-pool}
 use Rattle.model.proofs.Kept.{choice-kept, choose-lent}
@@ -31,7 +30,7 @@ use Rattle.numbering.specs.Renumbers.{Numbering, Renumbers, renamedFrame
 use Rattle.numbering.specs.Means.{Alike, answers, Same}
 use Rattle.numbering.proofs.SimulationStates.{KeptPool, Follows}
 use Rattle.numbering.proofs.SimulationChoices.{renamedResult, KeptResult, renamedRan, KeptRan, Chooses, choice-follows}
-use Rattle.numbering.proofs.SimulationChoices.{values-follow, run-follows}
+use Rattle.numbering.proofs.SimulationChoices.{first-follows, values-follow, run-follows}
 use Rattle.numbering.proofs.SimulationBeats.{renamedSpent, renamedBeaten, KeptBeaten, renamedBeats, KeptBeats}
 use Rattle.numbering.proofs.SimulationBeats.{beaten-follows, runs-follow}
 
@@ -44,14 +43,6 @@ started-kept : (R : Numbering) (P Q : Program) → Renumbers R P Q → KeptPool 
 unfolding started begin
 started-kept R P Q n =
     ((record { function = n .mainKept; block = n .copies 0 (n .mainKept) .entryKept; calls = tt }, tt), tt)
-
--- which thread can step is the same question where every choice has the same answer and both words are pools
-which-same : (s t : List ℕ) (ws ws′ : List ℤ) → ((kind i : ℕ) → Calls.choose s ws kind i .answer ≡ Calls.choose t ws′ kind i .answer) →
-    {l l′ : Lent} → lent s ws ≡ Answer.given l → lent t ws′ ≡ Answer.given l′ → (a : Answer (Option ℕ)) → Which s ws a → Which t ws′ a
-unfolding Which
-which-same s t ws ws′ e m n (Answer.given (some i)) w = (w .0, sym (e 0 i) ∙ w .1)
-which-same s t ws ws′ e m n (Answer.given none) w = ((_, n), λ i x. w .1 i (x .0, e 0 i ∙ x .1))
-which-same s t ws ws′ e m n (Answer.refused r) w = refused-given (sym w ∙ m)
 
 -- a beat's choices are answered as the beat tells: its rule and as many promotions as it made, or its refusal
 unfoldable choicesTold : Answer Beat → List (Answer ℕ)
@@ -149,6 +140,11 @@ module _ (s t : List ℕ) (P Q : Program) (R : Numbering) (r : read s ≡ Answer
             (choice-kept Q (read-limits t Q r′) (renamedPool R (g .pool)) (renamedPool R p) kind i rule valid′
             (f .same ∙ ap (renamedResult R) e))
         go (Result.refused m) e h = g
+
+    -- which thread can step
+    hold-which : Calls.which s ws ≡ Calls.which t ws′
+    unfolding Calls.which with
+    hold-which = rw (g .first, g .second, first-follows (n .copies) (g .pool) (g .kept))
 
     -- a schedule
     hold-ran : (cs : List Choice) → Follows (renamedRan R) (KeptRan R) (run P (g .pool) cs) (run Q (renamedPool R (g .pool)) cs)
@@ -266,8 +262,7 @@ module _ (s t : List ℕ) (P Q : Program) (R : Numbering) (r : read s ≡ Answer
           steps = λ N C is. hold-runs N C is .steps;
           promotions = λ N C is. hold-runs N C is .promotions;
           values = rw (g .first, g .second, values-follow (n .copies) (g .pool) (g .kept));
-          which = which-same s t ws ws′ hold-answer (g .first) (g .second);
-          which-back = which-same t s ws′ ws (λ kind i. sym (hold-answer kind i)) (g .second) (g .first);
+          which = hold-which;
         }
 
   hold-finally : {ws ws′ : List ℤ} (cs : List Call) → Held ws ws′ → Held (finally s ws cs) (finally t ws′ cs)

@@ -2,7 +2,6 @@
 -- list of calls tells it from the old one. And the same of any two numberings of one program.
 use Prim.Native.Nat.{ℕ, _≤_}
 use mathlib.Core.Path.{_≡_}
-use mathlib.Core.Option.{Option}
 use mathlib.Core.List.{List, map}
 use lib.IntN.{ℤ}
 use lib.ListN.{length}
@@ -11,7 +10,7 @@ use Rattle.model.specs.Answers.{Refusal, Answer}
 use Rattle.model.specs.Syntax.{Program}
 use Rattle.model.specs.Pool.{poolWords}
 use Rattle.model.specs.Calls as Calls
-use Rattle.model.specs.Calls.{Choice, Which, Lent, lent, read, check}
+use Rattle.model.specs.Calls.{Choice, Lent, lent, read, check}
 use Rattle.tokens.specs.Beats as Beats
 use Rattle.safety.specs.NeverJams.{Call, Put, choices, finally}
 use Rattle.numbering.specs.Renumbers.{Numbering, renamedPool, Renumbers, Apart, Onto}
@@ -30,8 +29,7 @@ pub record Alike (s t : List ℕ) (ws ws′ : List ℤ) : Type 0 where
   pub steps : (N C : ℕ) (threads : List ℕ) → Beats.run s ws N C threads .steps ≡ Beats.run t ws′ N C threads .steps
   pub promotions : (N C : ℕ) (threads : List ℕ) → Beats.run s ws N C threads .promotions ≡ Beats.run t ws′ N C threads .promotions
   pub values : Calls.values s ws ≡ Calls.values t ws′
-  pub which : (a : Answer (Option ℕ)) → Which s ws a → Which t ws′ a
-  pub which-back : (a : Answer (Option ℕ)) → Which t ws′ a → Which s ws a
+  pub which : Calls.which s ws ≡ Calls.which t ws′
 
 -- the answers of choices that were put
 abbrev pub answers : List ℕ → List Put → List (Answer ℕ)

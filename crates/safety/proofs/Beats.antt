@@ -28,7 +28,7 @@ use Rattle.tokens.specs.Beats.{Beat, paying, spend, stepped, beaten, mostN, isP
 use Rattle.tokens.proofs.Purses.{earned-stacks, shared-stacks, earned-valid, shared-valid}
 use Rattle.tokens.proofs.Words.{pace-facts, lent-at, lent-at-given, unlent, beat-lent, beat-refused}
 use Rattle.safety.specs.NeverJams.{Put, ofBeat}
-use Rattle.safety.specs.InTurn.{InTurn, Beaten, AsSteps}
+use Rattle.safety.specs.InTurn.{InTurn, AsItsStep, AsSteps}
 
 -- a step of thread i, and promotions of it put with these words
 abbrev pub stepOf : List ℤ → ℕ → Put
@@ -166,7 +166,7 @@ beat-as s ws i N C = go (isPace N C) refl
 
 -- a beat is answered as its step is
 module _ {s : List ℕ} {ws : List ℤ} {i N C : ℕ} (q : isPace N C ≡ true) where
-  as-step : {ps : List Put} {d : Called Beat} → BeatAs s ws i N C ps d → Beats.beat s ws i N C ≡ d → Beaten s ws i N C
+  as-step : {ps : List Put} {d : Called Beat} → BeatAs s ws i N C ps d → Beats.beat s ws i N C ≡ d → AsItsStep s ws i N C
   as-step (BeatAs.unpaced e) h = true-false (isPace N C) q e
   as-step (BeatAs.refused e) h =
       record {

@@ -31,7 +31,7 @@ Faithful = (s : List ℕ) (ws : List ℤ) (cs : List Call) → InTurn s ws (choi
 
 -- a beat is refused exactly where its step is, with the same refusal, and leaves the words; it is given exactly where its step is, with
 -- the same rule
-pub record Beaten (s : List ℕ) (ws : List ℤ) (i N C : ℕ) : Type 0 where
+pub record AsItsStep (s : List ℕ) (ws : List ℤ) (i N C : ℕ) : Type 0 where
   pub refused : (r : Refusal) → Beats.beat s ws i N C .answer ≡ Answer.refused r → Calls.choose s ws 0 i .answer ≡ Answer.refused r
   pub refuses : (r : Refusal) → Calls.choose s ws 0 i .answer ≡ Answer.refused r → Beats.beat s ws i N C .answer ≡ Answer.refused r
   pub leaves : (r : Refusal) → Beats.beat s ws i N C .answer ≡ Answer.refused r → Beats.beat s ws i N C .after ≡ ws
@@ -41,7 +41,7 @@ pub record Beaten (s : List ℕ) (ws : List ℤ) (i N C : ℕ) : Type 0 where
 
 -- for all bytes and words, any thread number, and any N and C that there are
 abbrev pub AsSteps : Type 0
-AsSteps = (s : List ℕ) (ws : List ℤ) (i N C : ℕ) → isPace N C ≡ true → Beaten s ws i N C
+AsSteps = (s : List ℕ) (ws : List ℤ) (i N C : ℕ) → isPace N C ≡ true → AsItsStep s ws i N C
 
 -- the rules that choices make, in order
 unfoldable pub madeBy : Answer ℕ → List ℕ

@@ -3,7 +3,7 @@
 use Prim.Native.Nat.{ℕ, _-_, _≤_, _<_}
 use mathlib.Core.Path.{_≡_}
 use mathlib.Core.Bool.{Bool, true, false}
-use mathlib.Core.Option.{some}
+use mathlib.Core.Option.{Option, none, some}
 use mathlib.Core.List.{List, [], _∷_, _++_}
 use lib.Dec.{ltb}
 use lib.IntN.{ℤ}
@@ -14,7 +14,7 @@ use Rattle.model.specs.Answers.{Refusal, Answer}
 use Rattle.model.specs.Pool.{Frame, Thread, Pool, mostFrames, mostThreads, startOf, frames, wordsOf, isPool, arePool}
 use Rattle.model.specs.Rules.{Act, Result, act, ended, promote, choice}
 use Rattle.model.specs.Rules as Rules
-use Rattle.model.specs.Calls.{Called, made}
+use Rattle.model.specs.Calls.{Called, made, canStep, first}
 use Rattle.model.specs.Valid.{IsPool}
 use Rattle.places.specs.Places.{Places}
 use Rattle.pool.specs.Frame.{Small}
@@ -163,39 +163,33 @@ abbrev pub DecidesAt : List ℕ → List ℕ → List ℤ → ℕ → List ℤ �
 DecidesAt s places ws i out r out′ =
     (P : Program) (a : Pool) (t : Thread) (b : Pool) → Known s places ws i P a t b → DecidedWith P s t b (leftIn P t b out) r out′
 
--- a step makes a rule, or is refused
-abbrev pub Goes : Program → Pool → ℕ → Type 0
-Goes P p i = (rule : ℕ) × (p′ : Pool) × (choice P p 0 i ≡ Result.made rule p′)
-
-abbrev pub Stops : Program → Pool → ℕ → Type 0
-Stops P p i = (n : ℕ) × (choice P p 0 i ≡ Result.refused n)
-
--- the words after a step
-abbrev pub afterStep : Program → Pool → List ℤ → ℕ → List ℤ
-afterStep P p ws i = made ws (choice P p 0 i) .after
-
--- a step tried: it makes a rule, or is refused, and then the words are as they were
-abbrev pub Tried : Program → Pool → List ℤ → ℕ → Bool → List ℤ → Type 0
-Tried P p ws i true ws′ = Goes P p i × (ws′ ≡ afterStep P p ws i)
-Tried P p ws i false ws′ = Stops P p i × (ws′ ≡ ws)
+-- a step tried: whether it makes a rule, and the words after it
+pub record Tried (P : Program) (p : Pool) (ws : List ℤ) (i : ℕ) (r : Bool) (ws′ : List ℤ) : Type 0 where
+  pub goes : r ≡ canStep P p i
+  pub left : ws′ ≡ made ws (choice P p 0 i) .after
 
 abbrev pub Tries : List ℕ → List ℕ → List ℤ → ℕ → Bool → List ℤ → Type 0
 Tries s places ws i r ws′ =
     (P : Program) (p : Pool) → Places s P places → ws ≡ wordsOf p → isPool P p ≡ true → Tried P p ws i r ws′
 
--- the thread that was found steps; where none was found none does
-abbrev pub Finds : Program → Pool → Stepper → Type 0
-Finds P p (Found.Thread i) = Goes P p i
-Finds P p Found.Nobody = (i : ℕ) → Stops P p i
+-- the thread that was found, or none
+abbrev pub foundBy : Stepper → Option ℕ
+foundBy (Found.Thread i) = some i
+foundBy Found.Nobody = none
 
 abbrev pub FindsStepper : List ℕ → List ℕ → List ℤ → Stepper → Type 0
 FindsStepper s places ws r =
-    (P : Program) (p : Pool) → Places s P places → ws ≡ wordsOf p → isPool P p ≡ true → Finds P p r
+    (P : Program) (p : Pool) → Places s P places → ws ≡ wordsOf p → isPool P p ≡ true → foundBy r ≡ first P p
 
--- the first thread that steps was found, and has stepped; where none was found none does, and the words are as they were
-abbrev pub First : Program → Pool → List ℤ → Stepper → List ℤ → Type 0
-First P p ws (Found.Thread i) ws′ = Goes P p i × ((j : ℕ) → j < i → Stops P p j) × (ws′ ≡ afterStep P p ws i)
-First P p ws Found.Nobody ws′ = ((i : ℕ) → Stops P p i) × (ws′ ≡ ws)
+-- the words after a step of this thread; where there is none, the words
+abbrev pub afterStep : Program → Pool → List ℤ → Option ℕ → List ℤ
+afterStep P p ws (some i) = made ws (choice P p 0 i) .after
+afterStep P p ws none = ws
+
+-- the first thread that can step was found, and has stepped
+pub record First (P : Program) (p : Pool) (ws : List ℤ) (r : Stepper) (ws′ : List ℤ) : Type 0 where
+  pub found : foundBy r ≡ first P p
+  pub left : ws′ ≡ afterStep P p ws (first P p)
 
 abbrev pub FindsFirst : List ℕ → List ℕ → List ℤ → Stepper → List ℤ → Type 0
 FindsFirst s places ws r ws′ =

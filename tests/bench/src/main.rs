@@ -260,9 +260,14 @@ fn beat(run: &Looping, beats: &Beats) -> Duel {
     duel
 }
 
-/// Asked of pools along a run.
+/// Asked of pools along a run, of which both sides name the same threads.
 fn which(run: &Looping) -> Duel {
     let pools = run.pools();
+    for pool in &pools {
+        let first = lent::which(&run.table, pool).expect("a thread or none");
+        let other = fast::which(&run.table, pool).expect("a thread or none");
+        assert_eq!(first.map(|thread| thread as usize), other);
+    }
     duel(
         || {
             for pool in &pools {

@@ -8,8 +8,9 @@ use oracle::gen::{brief, calls, faults, loops, programs, scenario, twins};
 use oracle::machine::{complete_differs, differences, tables_differ, Machine, Oracle};
 use oracle::pool::Pool;
 use oracle::rng::Rng;
+use oracle::rules::{steppable, STEP};
 use oracle::stored::{brief_rows, frame_starts, tidy_rows};
-use oracle::POOL_WORDS;
+use oracle::{which, POOL_WORDS};
 
 #[test]
 fn same_answers() {
@@ -98,6 +99,55 @@ fn same_runs() {
         promotions += made[1];
     }
     assert!(promotions > 5_000, "{promotions} promotions");
+}
+
+/// Of lent pools, and of pools along runs, the first thread that can step; and steps by the first.
+#[test]
+fn same_first_threads() {
+    for round in 0..4_000 {
+        let input = scenario(&mut Rng::of_round(12, round));
+        let due = which(&input.table, &input.words);
+        let given = Fast.can_step(&input.table, &input.words);
+        assert_eq!(given, due, "round {round}");
+    }
+    let (mut named, mut several) = ([0; 8], 0);
+    for round in 0..500 {
+        let rng = &mut Rng::of_round(13, round);
+        let (program, start) = (loops::looping(rng), Pool::start());
+        let (table, mut words) = (encode(&program), start.to_words());
+        let pace = quick_pace(rng);
+        for thread in guided_run(rng, &program, &start, pace, 100, true) {
+            let thread = thread.min(Fast.widest());
+            let _ = Fast.beat(&table, &mut words, pace, thread);
+            let first = Fast.can_step(&table, &words);
+            assert_eq!(first, which(&table, &words), "round {round}");
+            if let Ok(Some(thread)) = first {
+                named[thread] += 1;
+                let pool = Pool::from_words(&program, &words).expect("a pool");
+                several += usize::from(steppable(&program, &pool).len() > 1);
+            }
+        }
+        let mut other = words.clone();
+        for _ in 0..100 {
+            let Ok(Some(thread)) = Fast.can_step(&table, &words) else {
+                break;
+            };
+            let rule = Fast.choose(&table, &mut words, STEP, thread as u64);
+            let due = Oracle.choose(&table, &mut other, STEP, thread as u64);
+            assert!(rule.is_ok(), "round {round}: {rule:?}");
+            assert_eq!((rule, &words), (due, &other), "round {round}");
+            let first = Fast.can_step(&table, &words);
+            assert_eq!(first, which(&table, &other), "round {round}");
+        }
+    }
+    assert!(
+        named.iter().all(|&count| count > 100),
+        "{named:?} are named"
+    );
+    assert!(
+        several > 10_000,
+        "{several} pools in which several can step"
+    );
 }
 
 /// A full pool, whose frames stand at the stored starts.

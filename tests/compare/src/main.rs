@@ -3,14 +3,15 @@
 //! places, and what is written; asserts the laws of every number answered and
 //! of the memory lent; and asserts demand 3 of the library, what depths say,
 //! that a child's arguments are those of its spork, and that tidy tables answer
-//! as their tables, on random runs of accepted tables. Tables of version 2 are
-//! completed, whose completions are known where their making tells them. Stored
-//! tables are tidied and completed too, and a pool is filled to see where each
-//! frame begins.
+//! as their tables, on random runs of accepted tables. Of any table steps by the
+//! first are made. Tables of version 2 are completed, whose completions are known
+//! where their making tells them. Stored tables are tidied and completed too, and
+//! a pool is filled to see where each frame begins.
 //!
 //! `compare SEED COUNT`; the last line is `compare: N passed, M failed`.
 
 mod brief;
+mod first;
 mod laws;
 mod lent;
 mod library;
@@ -55,7 +56,7 @@ fn main() -> ExitCode {
     for round in 0..count {
         tally.round = round;
         let mut rng = Rng::of_round(seed, round);
-        compare_scenario(&mut tally, &library, &mut rng);
+        let lent = compare_scenario(&mut tally, &library, &mut rng);
         let program = programs::accepted(&mut rng);
         compare_faults(&mut tally, &library, &mut rng, &program);
         runs::check_run(&mut tally, &library, &mut rng, &program);
@@ -66,14 +67,13 @@ fn main() -> ExitCode {
         runs::check_run(&mut tally, &library, &mut rng, &looped);
         tokens::check_tokens(&mut tally, &library, &mut rng, &looped);
         tokens::check_crowded(&mut tally, &library, &mut rng, &looped);
-        let one = if round.is_multiple_of(2) {
-            program
-        } else {
-            calling
-        };
-        twins::check_twins(&mut tally, &library, &mut rng, &one);
+        let one = [&program, &calling][round as usize % 2];
+        twins::check_twins(&mut tally, &library, &mut rng, one);
         let input = brief(&mut rng);
         brief::check_brief(&mut tally, &library, &mut rng, &input);
+        first::check_lent(&mut tally, &library, &mut rng, &lent);
+        let one = [&program, &calling, &looped][round as usize % 3];
+        first::check_started(&mut tally, &library, &mut rng, one);
         library.count(&mut tally);
     }
     tally.finish()
@@ -95,6 +95,9 @@ fn events() -> Vec<String> {
     events.extend(notes().into_iter().map(String::from));
     events.extend(watch::BEATS.map(String::from));
     events.extend(tokens::EVENTS.map(String::from));
+    events.extend(watch::FIRSTS.map(String::from));
+    events.extend(watch::BY_FIRST.map(String::from));
+    events.extend(first::EVENTS.map(String::from));
     let others = [FULL_SIZE, PAIR, LONG, starts::EVENT];
     events.extend(laws::events());
     events.extend(sporks::events());
@@ -102,8 +105,8 @@ fn events() -> Vec<String> {
     events
 }
 
-/// Every call on one scenario.
-fn compare_scenario(tally: &mut Tally, library: &Library, rng: &mut Rng) {
+/// Every call on one scenario, which is given.
+fn compare_scenario(tally: &mut Tally, library: &Library, rng: &mut Rng) -> Scenario {
     let input = scenario(rng);
     let found = differences(library, &input);
     tally.expect(found.is_empty(), || {
@@ -120,6 +123,7 @@ fn compare_scenario(tally: &mut Tally, library: &Library, rng: &mut Rng) {
     if input.choices.len() >= 500 && input.words.len() == POOL_WORDS {
         tally.event(LONG);
     }
+    input
 }
 
 /// A table rich in calls, as it is and with faults, and a run of it.

@@ -8,12 +8,13 @@ use crate::purses::{masked, purses};
 use crate::sporks::{Part, Put, Sporks};
 use oracle::beats::{beat_as, Pace};
 use oracle::encode::encode;
+use oracle::first::first;
 use oracle::gen::beats::{guided_run, guided_thread, no_pace, quick_pace};
 use oracle::gen::schedules::{guided_choice, guided_schedule, Choice, Order, Policy};
 use oracle::machine::{pace_within, Machine};
 use oracle::pool::{thread_start, Pool, MAX_FRAMES, MAX_THREADS};
 use oracle::rng::Rng;
-use oracle::rules::{self, ended, steppable, Rule, PROMOTE, STEP};
+use oracle::rules::{self, ended, Rule, PROMOTE, STEP};
 use oracle::table::Program;
 use oracle::tally::Tally;
 use oracle::watch::{self, join, join_event};
@@ -431,24 +432,25 @@ impl Run<'_> {
 
     /// Main has returned as many values as declared, or a thread can step, or
     /// some thread is at a call with all frames in use; the last not at a
-    /// depth of at most 8.
+    /// depth of at most 8. The thread that is named is the first that can.
     fn stands(&self, tally: &mut Tally) {
         self.agrees(tally);
         let returned = self.returned(tally);
         let which = self.machine.can_step(&self.table, &self.words);
-        let due = steppable(self.program, &self.pool);
+        let due = first(self.program, &self.pool);
+        tally.expect(which == Ok(due), || {
+            format!("{which:?} is named, {due:?} is the first that can step")
+        });
         match which {
             Ok(Some(thread)) => {
                 let answer = self.step(tally, thread as u64);
-                tally.expect(matches!(answer, Ok(1..=9)) && due.contains(&thread), || {
-                    format!("thread {thread} can step, and gets {answer:?}; {due:?} can")
+                tally.expect(matches!(answer, Ok(1..=9)), || {
+                    format!("thread {thread} can step, and gets {answer:?}")
                 });
             }
             Ok(None) => {
                 let stands = returned || self.out_of_frames(tally);
-                tally.expect(stands && due.is_empty(), || {
-                    format!("no progress: {:?}; {due:?} can step", self.words)
-                });
+                tally.expect(stands, || format!("no progress: {:?}", self.words));
             }
             Err(refusal) => tally.expect(false, || format!("can step: {refusal:?}")),
         }

@@ -3,6 +3,7 @@
 
 use oracle::beats::beat;
 use oracle::encode::encode;
+use oracle::first::first;
 use oracle::gen::beats::{guided_thread, quick_pace};
 use oracle::gen::schedules::{guided_choice, guided_schedule, Choice, Policy};
 use oracle::gen::twins::twin;
@@ -197,9 +198,9 @@ impl Beside<'_> {
         (kind.min(widest), thread.min(widest))
     }
 
-    /// Main's values are the same; a thread that can step by the one can by the
-    /// other, and none by both; and the words are those of the second
-    /// implementation's pool, with the new numbers.
+    /// Main's values are the same; the first thread that can step is, the second
+    /// implementation's; and the words are those of the second implementation's
+    /// pool, with the new numbers.
     fn compare(&mut self, tally: &mut Tally) {
         let values = self.both(tally, |machine, table, words| {
             let mut room = [0; 4];
@@ -208,12 +209,14 @@ impl Beside<'_> {
         if matches!(values, (Ok(Some(_)), _)) {
             tally.event(BESIDE);
         }
-        let which = [0, 1].map(|side| self.machine.can_step(&self.tables[side], &self.words[side]));
-        for thread in which {
-            let Ok(Some(thread)) = thread else {
-                tally.expect(which == [Ok(None); 2], || format!("can step: {which:?}"));
-                continue;
-            };
+        let which = self.both(tally, |machine, table, words| {
+            machine.can_step(table, words)
+        });
+        let due = first(self.program, &self.pool);
+        tally.expect(which == Ok(due), || {
+            format!("{which:?} is named by both, {due:?} is the first that can step")
+        });
+        if let Ok(Some(thread)) = which {
             let step = self.both(tally, |machine, table, words| {
                 machine.choose(table, &mut words.clone(), STEP, thread as u64)
             });

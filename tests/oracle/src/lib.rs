@@ -10,6 +10,7 @@ pub mod complete;
 pub mod depth;
 pub mod encode;
 pub mod every;
+pub mod first;
 pub mod full;
 pub mod gen;
 pub mod graph;
@@ -54,10 +55,10 @@ pub fn choose(table: &[u8], pool: &mut [i32], kind: u64, thread: u64) -> Result<
     Ok(rule)
 }
 
-/// Every thread whose step makes a rule.
-pub fn steppable(table: &[u8], pool: &[i32]) -> Result<Vec<usize>, Refusal> {
+/// The first thread whose step makes a rule, if any; refusals 1 to 3, 12 and 13.
+pub fn which(table: &[u8], pool: &[i32]) -> Result<Option<usize>, Refusal> {
     let (program, tree) = decode(table, pool)?;
-    Ok(rules::steppable(&program, &tree))
+    Ok(first::first(&program, &tree))
 }
 
 /// Main's values, if thread 0 is ended.

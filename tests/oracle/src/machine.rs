@@ -11,8 +11,7 @@ use crate::rules::{PROMOTE, STEP};
 use crate::table::{Version, TABLE_MIN};
 use crate::tidy;
 
-/// The calls of an implementation. Rules are their numbers; "which thread can
-/// step" gives any one thread.
+/// The calls of an implementation. Rules are their numbers.
 pub trait Machine {
     fn read(&self, table: &[u8]) -> Result<(), Refusal>;
     fn check(&self, table: &[u8]) -> Result<(), Refusal>;
@@ -26,6 +25,8 @@ pub trait Machine {
     fn start(&self, table: &[u8], pool: &mut [i32]) -> Result<(), Refusal>;
     fn choose(&self, table: &[u8], pool: &mut [i32], kind: u64, thread: u64)
         -> Result<u8, Refusal>;
+    /// The first thread that can step: the lowest numbered whose step makes a
+    /// rule.
     fn can_step(&self, table: &[u8], pool: &[i32]) -> Result<Option<usize>, Refusal>;
     /// How many values main has, that many of `room` written; or open.
     fn values(
@@ -111,7 +112,7 @@ impl Machine for Oracle {
     }
 
     fn can_step(&self, table: &[u8], pool: &[i32]) -> Result<Option<usize>, Refusal> {
-        crate::steppable(table, pool).map(|threads| threads.first().copied())
+        crate::which(table, pool)
     }
 
     fn values(
@@ -331,7 +332,7 @@ const ROOM: [i32; 4] = [-11, 12, -13, 14];
 /// What stands in the place of a number made before it is lent.
 const UNWRITTEN: u64 = u64::MAX - 1;
 
-/// Main's values, and that a thread said to step can step.
+/// Main's values, and the first thread that can step.
 fn questions_differ(machine: &dyn Machine, table: &[u8], words: &[i32]) -> Vec<String> {
     let (mut given_room, mut right_room) = (ROOM, ROOM);
     let values = differs(
@@ -340,16 +341,12 @@ fn questions_differ(machine: &dyn Machine, table: &[u8], words: &[i32]) -> Vec<S
         Oracle.values(table, words, &mut right_room),
     )
     .or_else(|| differs("room for values", given_room, right_room));
-    let given = machine.can_step(table, words);
-    let right = crate::steppable(table, words);
-    let fits = match (&given, &right) {
-        (Ok(Some(thread)), Ok(threads)) => threads.contains(thread),
-        (Ok(None), Ok(threads)) => threads.is_empty(),
-        (Err(given), Err(right)) => given == right,
-        _ => false,
-    };
-    let steps = (!fits).then(|| format!("can step: {given:?} given, one of {right:?} right"));
-    values.into_iter().chain(steps).collect()
+    let first = differs(
+        "first that can step",
+        machine.can_step(table, words),
+        Oracle.can_step(table, words),
+    );
+    values.into_iter().chain(first).collect()
 }
 
 /// Both kinds for every thread there may be, and what is no choice.

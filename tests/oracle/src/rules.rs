@@ -186,8 +186,8 @@ fn bind(frame: &mut Frame, parameters: &[Temporary], values: &[i32]) {
     }
 }
 
-/// Steps a thread, by a choice that may have a number.
-fn step(program: &Program, thread: &mut Thread, number: Option<u64>) -> Result<Rule, u8> {
+/// Steps a thread, by a choice that may have a number; a refusal changes nothing.
+pub fn step(program: &Program, thread: &mut Thread, number: Option<u64>) -> Result<Rule, u8> {
     match transfer(program, thread) {
         None => statement(program, thread.current_mut()).ok_or(STUCK),
         Some(Transfer::Goto { block, arguments }) => {

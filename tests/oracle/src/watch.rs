@@ -1,11 +1,12 @@
-//! What is worth counting: the shapes of programs, joins, what pools reach, and
-//! what beats are like.
+//! What is worth counting: the shapes of programs, joins, what pools reach, what
+//! beats are like, and the first thread that can step.
 
 use crate::beats::{Beat, Entry, Pace};
 use crate::depth;
+use crate::first::Run;
 use crate::graph::{cyclic, jumps, live, Graph};
 use crate::pool::{Pool, Thread, MAX_CALLS, MAX_FRAMES, MAX_THREADS};
-use crate::rules::{ended, transfer, Rule};
+use crate::rules::{ended, step, transfer, Rule};
 use crate::table::{
     Function, Name, Program, Transfer, BRIEF_MAX, MAX_BLOCKS, MAX_FUNCTIONS, MAX_NESTING,
     MAX_SPAWNS,
@@ -322,4 +323,83 @@ fn rests(beat: &Beat) -> Vec<u64> {
 /// The name of the event of a beat's promotions.
 pub fn promotions_event(promotions: u64) -> String {
     format!("beat of {promotions} promotions")
+}
+
+/// What the first thread that can step is like, by name.
+pub const FIRSTS: [&str; 12] = [
+    "first is thread 0, and no other can step",
+    "first is thread 0, and another can step",
+    "first is thread 1, and no other can step",
+    "first is another, and thread 0 waits",
+    "first is another, and a lower one is ended",
+    "first is another, and a lower one is out of frames",
+    "first is another, and a lower one is stuck",
+    "first is another, and all lower ones wait, two or more",
+    "first is another, and a higher one can step",
+    "first is none, and main has returned",
+    "first is none, and a thread is out of frames",
+    "first is none, and a thread is stuck",
+];
+
+/// What the first thread of a pool that can step is like, by what a step of each
+/// thread gets.
+pub fn firsts(program: &Program, pool: &Pool) -> Vec<&'static str> {
+    let threads = pool.threads().into_iter();
+    let answers: Vec<Result<Rule, u8>> = threads
+        .map(|thread| step(program, &mut thread.clone(), None))
+        .collect();
+    let can = answers.iter().filter(|answer| answer.is_ok()).count();
+    let lower = answers.iter().take_while(|answer| answer.is_err()).count();
+    let some = can > 0;
+    let behind = some && lower > 0;
+    let gets = |number: u8| answers[..lower].contains(&Err(number));
+    let waits = |answer: &Result<Rule, u8>| *answer == Err(17);
+    let holds = [
+        some && lower == 0 && can == 1,
+        some && lower == 0 && can > 1,
+        lower == 1 && can == 1,
+        behind && waits(&answers[0]),
+        behind && gets(16),
+        behind && gets(18),
+        behind && gets(19),
+        behind && lower > 1 && answers[..lower].iter().all(waits),
+        behind && can > 1,
+        !some && answers[0] == Err(16),
+        !some && gets(18),
+        !some && gets(19),
+    ];
+    let found = FIRSTS.into_iter().zip(holds);
+    found
+        .filter_map(|(event, held)| held.then_some(event))
+        .collect()
+}
+
+/// What steps by the first are like, by name.
+pub const BY_FIRST: [&str; 7] = [
+    "steps by the first that ended",
+    "steps by the first that go on",
+    "steps by the first, none made",
+    "steps by the first of three threads or more",
+    "steps by the first that join a child",
+    "steps by the first of a table that is not accepted, that ended",
+    "steps by the first of a table that is not accepted, that go on",
+];
+
+/// What steps by the first were like, of a table that is accepted or not.
+pub fn by_first(run: &Run, accepted: bool) -> Vec<&'static str> {
+    let has = |number: usize| run.steps.iter().any(|&(thread, _)| thread == number);
+    let threads = (0..MAX_THREADS).filter(|&number| has(number)).count();
+    let holds = [
+        run.ended && !run.steps.is_empty(),
+        !run.ended,
+        run.ended && run.steps.is_empty(),
+        threads > 2,
+        run.steps.iter().any(|&(_, rule)| rule == Rule::Prom),
+        !accepted && run.ended,
+        !accepted && !run.ended,
+    ];
+    let found = BY_FIRST.into_iter().zip(holds);
+    found
+        .filter_map(|(event, held)| held.then_some(event))
+        .collect()
 }

@@ -4,7 +4,7 @@ use oracle::encode::{encode, fix_length};
 use oracle::gen::calls::{dense, line};
 use oracle::rng::Rng;
 use oracle::table::{Atom, Block, Expression, Function, Program, SpawnCall, Statement, Transfer};
-use oracle::{check, choose, depth, read, schedule, start, steppable, values};
+use oracle::{check, choose, depth, read, schedule, start, values, which};
 use oracle::{Place, Refusal, Rule, POOL_WORDS};
 
 /// Program A: sets 0 to 2 + 3 and returns it.
@@ -165,7 +165,7 @@ fn rows_12_and_13() {
     assert_eq!(start(&A, &mut []), Err(Refusal::plain(12)));
     assert_eq!(values(&A, &[]), Err(Refusal::plain(12)));
     let mut zeros = [0; POOL_WORDS];
-    assert_eq!(steppable(&A, &zeros), Err(Refusal::plain(13)));
+    assert_eq!(which(&A, &zeros), Err(Refusal::plain(13)));
     let answer = schedule(&A, &mut zeros, &[]);
     assert_eq!(answer, (0, Some(Refusal::plain(13))));
     assert_eq!(Refusal::plain(13).place, Place::Nowhere);

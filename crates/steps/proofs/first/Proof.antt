@@ -16,14 +16,17 @@ loop-holds c = (search needs, idle-none _ _ _ (c .before .before .before .pre))
 returns : tie.Need-returns Inv-loop μ-loop
 returns c =
     let at-goes = c .before .before in
-    idle-goes (at-goes .before .before .before .loop .inv .1) _ (at-goes .goes .result) (c .if1 .taken) (at-goes .goes .ensures)
+    let turn = at-goes .before .before .before in
+    idle-goes (turn .loop .inv .1) (turn .before .thread-count .ensures) (search needs) _ (at-goes .goes .result) (c .if1 .taken)
+    (at-goes .goes .ensures)
 
 loop-again : tie.Need-loop-again Inv-loop μ-loop
 loop-again c =
-    let at-goes = c .before .before in (
+    let at-goes = c .before .before in
+    let turn = at-goes .before .before .before in (
       search needs,
-      idle-more (at-goes .before .before .before .loop .inv .1) (at-goes .goes .result) (c .if1 .left) (search needs)
-          (at-goes .goes .ensures),
+      idle-more (turn .loop .inv .1) (turn .before .thread-count .ensures) (search needs) (at-goes .goes .result) (c .if1 .left)
+          (search needs) (at-goes .goes .ensures),
     )
 
 returns-2 : tie.Need-returns-2 Inv-loop μ-loop

@@ -86,7 +86,7 @@ pub fn choose(table: &[u8], pool: &mut [i32], kind: u32, thread: u32) -> Result<
         .map_err(Refusal::Plain)
 }
 
-/// A thread whose step makes a rule.
+/// The first thread whose step makes a rule.
 #[inline(never)]
 pub fn which(table: &[u8], pool: &[i32]) -> Result<Option<usize>, Refusal> {
     let mut places = Places::new();

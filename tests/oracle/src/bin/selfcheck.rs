@@ -6,6 +6,7 @@ use oracle::complete::completed;
 use oracle::depth::{self, depth_of, CYCLE};
 use oracle::encode::{encode, encode_brief};
 use oracle::every;
+use oracle::first;
 use oracle::gen::beats::{guided_thread, paces, quick_pace, PACES};
 use oracle::gen::brief::{self, bare, Brief};
 use oracle::gen::calls::{self, Calling};
@@ -46,7 +47,7 @@ fn main() -> ExitCode {
     tally.finish()
 }
 
-/// One round: an accepted table, its tidy table and its run, planted faults,
+/// One round: an accepted table, its tidy table and its runs, planted faults,
 /// spoiled bytes, scenarios, a table rich in calls, one rich in sporks and
 /// loops, tables of version 2, and a small program of which all scopes and
 /// nestings are tried; all from the seed and the round's number.
@@ -56,6 +57,7 @@ fn check_round(tally: &mut Tally, rng: &mut Rng) {
     check_tidy(tally, rng, &program);
     check_run(tally, rng, &program);
     check_tokens(tally, rng, &program);
+    check_along(tally, rng, &program);
     for _ in 0..4 {
         check_one_fault(tally, rng, &program);
         check_two_faults(tally, rng, &program);
@@ -64,6 +66,7 @@ fn check_round(tally: &mut Tally, rng: &mut Rng) {
     for _ in 0..3 {
         let input = scenario(rng);
         check_scenario(tally, &input);
+        check_lent(tally, rng, &input);
         if tally.round.is_multiple_of(10) {
             let found = differences(&Oracle, &input);
             tally.expect(found.is_empty(), || format!("{found:?}"));
@@ -74,6 +77,7 @@ fn check_round(tally: &mut Tally, rng: &mut Rng) {
     check_accepted(tally, &program, None);
     check_run(tally, rng, &program);
     check_tokens(tally, rng, &program);
+    check_along(tally, rng, &program);
     for _ in 0..3 {
         check_brief(tally, &brief::brief(rng));
     }
@@ -92,6 +96,7 @@ fn check_calls(tally: &mut Tally, rng: &mut Rng) {
     check_accepted(tally, &program, known);
     check_tidy(tally, rng, &program);
     check_run(tally, rng, &program);
+    check_along(tally, rng, &program);
     check_one_fault(tally, rng, &program);
     check_bytes(tally, rng, &program);
 }
@@ -111,6 +116,8 @@ fn events() -> Vec<String> {
     events.extend(PACES.map(String::from));
     events.extend(watch::BEATS.map(String::from));
     events.extend((0..MAX_THREADS as u64).map(watch::promotions_event));
+    events.extend(watch::FIRSTS.map(String::from));
+    events.extend(watch::BY_FIRST.map(String::from));
     events.extend(
         [
             "run that returned",
@@ -752,6 +759,85 @@ fn run_of(
     (made, refusal, words)
 }
 
+/// The first thread that can step: a step of it makes a rule, and of every lower
+/// one is refused; where there is none, of every thread.
+fn check_first(tally: &mut Tally, program: &Program, pool: &Pool) -> Option<usize> {
+    let first = first::first(program, pool);
+    let step = |t: usize| rules::choose(program, &mut pool.clone(), STEP, t as u64);
+    let lower = first.unwrap_or(MAX_THREADS);
+    let refused = (0..lower).all(|t| step(t).is_err());
+    tally.expect(refused && first.is_none_or(|t| step(t).is_ok()), || {
+        format!("{first:?} is no first of {pool:?}")
+    });
+    for event in watch::firsts(program, pool) {
+        tally.event(event);
+    }
+    first
+}
+
+/// Steps by the first of an accepted program, from a pool that a run from the
+/// start reached, with promotions: where they end main has returned or some
+/// thread has no frame left.
+fn check_along(tally: &mut Tally, rng: &mut Rng, program: &Program) {
+    let length = rng.one_of([0, 10, 60]);
+    let pool = pools::reached(rng, program, length);
+    let left = check_by_first(tally, rng, program, &pool);
+    check_progress(tally, program, depth_of(program), &left);
+}
+
+/// Steps by the first of any table that reads, from any words that are a pool
+/// of it.
+fn check_lent(tally: &mut Tally, rng: &mut Rng, input: &Scenario) {
+    if let Ok((program, pool)) = decode(input) {
+        check_by_first(tally, rng, &program, &pool);
+    }
+}
+
+/// Steps by the first from a pool, which is left: each is a plain step of the
+/// first thread that can step, they stop where there is none or at their number,
+/// and as a schedule all are made and leave the same words. Fewer begin the
+/// same, and the rest behind them is the rest.
+fn check_by_first(tally: &mut Tally, rng: &mut Rng, program: &Program, start: &Pool) -> Pool {
+    let table = encode(program);
+    let most = rng.one_of([0, 6, 30, 100]);
+    let mut left = start.clone();
+    let run = first::run(program, &mut left, most);
+    let mut pool = start.clone();
+    for &(thread, rule) in &run.steps {
+        let first = check_first(tally, program, &pool);
+        let made = rules::choose(program, &mut pool, STEP, thread as u64);
+        tally.expect(first == Some(thread) && made == Ok(rule), || {
+            format!("{thread} {rule:?}, and {first:?} is the first: {made:?}")
+        });
+    }
+    let none = check_first(tally, program, &left).is_none();
+    let whole = run.steps.len() == most || none;
+    tally.expect(pool == left && run.ended == none && whole, || {
+        format!("{run:?} of {most} leave {left:?}")
+    });
+    let choices: Vec<Choice> = run.steps.iter().map(|&(t, _)| (STEP, t as u64)).collect();
+    let mut words = start.to_words();
+    let given = oracle::schedule(&table, &mut words, &choices);
+    let same = given == (choices.len(), None) && words == left.to_words();
+    tally.expect(same, || format!("{given:?} of the schedule {choices:?}"));
+    let less = rng.below(most + 1);
+    let mut pool = start.clone();
+    let fewer = first::run(program, &mut pool, less);
+    let rest = first::run(program, &mut pool, most - less);
+    let in_two = [fewer.steps.clone(), rest.steps].concat();
+    let begins = fewer.steps.len() == less.min(run.steps.len());
+    tally.expect(begins && in_two == run.steps && pool == left, || {
+        format!("{fewer:?} of {less}, {run:?} of {most}")
+    });
+    tally.expect(!fewer.ended || fewer == run, || {
+        format!("{fewer:?} ended, and {run:?}")
+    });
+    for event in watch::by_first(&run, oracle::check(&table).is_ok()) {
+        tally.event(event);
+    }
+    left
+}
+
 /// The lists by the answers are the tree's own, and every open call has for its
 /// arguments the values of its spork; a child just promoted begins with them.
 fn check_opened(
@@ -1095,7 +1181,7 @@ fn check_undecoded(tally: &mut Tally, input: &Scenario, refusal: Refusal) {
     let given = [
         oracle::choose(&input.table, &mut words, 0, 0).err(),
         oracle::choose(&input.table, &mut words, 2, 9).err(),
-        oracle::steppable(&input.table, &words).err(),
+        oracle::which(&input.table, &words).err(),
         oracle::values(&input.table, &words).err(),
         oracle::schedule(&input.table, &mut words, &[]).1,
         oracle::schedule(&input.table, &mut words, &input.choices).1,
@@ -1118,9 +1204,13 @@ fn check_questions(tally: &mut Tally, input: &Scenario, program: &Program, pool:
     });
     let step = |t: usize| rules::choose(program, &mut pool.clone(), STEP, t as u64);
     let stepping: Vec<usize> = (0..pool.size()).filter(|&t| step(t).is_ok()).collect();
-    let given = oracle::steppable(&input.table, &input.words);
-    tally.expect(given == Ok(stepping.clone()), || {
+    let given = rules::steppable(program, pool);
+    tally.expect(given == stepping, || {
         format!("{stepping:?} can step, {given:?} given")
+    });
+    let first = oracle::which(&input.table, &input.words);
+    tally.expect(first == Ok(stepping.first().copied()), || {
+        format!("{stepping:?} can step, {first:?} is the first")
     });
     let values = oracle::values(&input.table, &input.words);
     let is_given = matches!(values, Ok(Some(_)));

@@ -1,0 +1,4 @@
+pub mod Trails
+pub mod Means
+pub mod Runs
+pub mod Rows
