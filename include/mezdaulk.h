@@ -6,9 +6,9 @@
  * read such an answer; each evaluates its argument once.
  *
  * A table is any bytes and a pool any words: nothing outside the lent memory is read or written, and every call returns. Tables,
- * schedules, lists of threads and pools that are only asked about are never written. No call keeps anything: calls on different pools
- * may run at the same time; two calls on one pool may not, if either of them writes it. Lent regions that a call writes must not overlap
- * others of the same call.
+ * schedules, lists of threads and pools that are only asked about or listed are never written. No call keeps anything: calls on different
+ * pools may run at the same time; two calls on one pool may not, if either of them writes it. Lent regions that a call writes must not
+ * overlap others of the same call.
  *
  * A pointer with a count beside it (table, pool, choices, threads, out, scratch) must be valid for that many items and aligned for their
  * type. With a count of 0 it may be anything, NULL too. values and made have no count and must be valid in every call.
@@ -36,13 +36,16 @@ extern "C" {
 #define MEZDAULK_OUTPUT_BYTES 16384
 #define MEZDAULK_SCRATCH_WORDS 1024
 
+/* An output of so many bytes has room for every listing, the operator's and the customer's. */
+#define MEZDAULK_LISTING_BYTES 4096
+
 /* An answer is given (1), or it is a refusal (0). */
 #define MEZDAULK_GIVEN(answer) ((int)(((uint64_t)(answer) >> 32) & 1u))
 
 /* The value of a given answer. */
 #define MEZDAULK_VALUE(answer) ((uint32_t)((uint64_t)(answer) & 0xFFFFFFFFu))
 
-/* The number of a refusal, 1 to 27; the place of a 3; the function and the block of 4 to 11, 25 and 26. */
+/* The number of a refusal, 1 to 28; the place of a 3; the function and the block of 4 to 11, 25 and 26. */
 #define MEZDAULK_NUMBER(answer) ((unsigned)((uint64_t)(answer) & 0xFFu))
 #define MEZDAULK_PLACE(answer) ((unsigned)(((uint64_t)(answer) >> 8) & 0xFFFFFFu))
 #define MEZDAULK_BLOCK(answer) ((unsigned)(((uint64_t)(answer) >> 8) & 0xFFu))
@@ -96,8 +99,10 @@ extern "C" {
 #define MEZDAULK_REFUSED_LENT 24u       /* the scratch has fewer than 1,024 words, or the output has not 16,384 bytes */
 #define MEZDAULK_REFUSED_UNREACHED 25u  /* no transfer from its function's entry reaches a block */
 #define MEZDAULK_REFUSED_IMPOSSIBLE 26u /* no scopes and nestings make a function well formed */
-/* and of a beat. */
+/* of a beat, */
 #define MEZDAULK_REFUSED_PACE 27u /* N is not 1 to 65,535, or C not 1 to 255 */
+/* and of a listing. */
+#define MEZDAULK_REFUSED_LISTING 28u /* the output is shorter than the listing */
 
 /* The rules that a choice makes: 1 to 9 by a step, 10 by a promotion. */
 #define MEZDAULK_RULE_STMT 1u     /* a statement */
@@ -184,6 +189,21 @@ uint64_t mezdaulk_beat(const uint8_t *table, size_t bytes, int32_t *pool, size_t
  * made[1] times n is at most c times made[0]. */
 uint64_t mezdaulk_run(const uint8_t *table, size_t bytes, int32_t *pool, size_t words, uint32_t n, uint32_t c,
                       const uint32_t *threads, size_t count, uint64_t made[2]);
+
+/* Where has the job got to? Writes the operator's listing of a pool at the start of out, which has room for so many bytes. A thread's
+ * lines are its own and then those of its children, newest first, each child one space deeper than its parent; so the threads come in the
+ * order of their numbers. A line is seven numbers in decimal with one space between two, and a newline byte: the thread, how many frames
+ * it has, and of its newest frame the function, the block, the statements done, the open spawn calls, and how many of these are promoted.
+ * Given: the length of the listing; out behind it is as it was. The job's values have no part in it, which is proved: two pools that
+ * agree in all words but the sixteen values of each frame, both of them pools of the table, give, with outputs equally long, the same
+ * bytes, the same length and the same refusals. Refused: 1 to 3, 12, 13; 28 where room is less than that length; out is then as it was.
+ * out must not overlap table and pool. */
+uint64_t mezdaulk_operator(const uint8_t *table, size_t bytes, const int32_t *pool, size_t words, uint8_t *out, size_t room);
+
+/* The same for the customer, whose lines have the numbers too: behind the seven each has the newest frame's bound temporaries, ascending,
+ * each with its value behind it, in decimal and with a minus sign where it is negative, one space before each number. Given and refused
+ * as the operator's, 28 by the length of this listing. */
+uint64_t mezdaulk_customer(const uint8_t *table, size_t bytes, const int32_t *pool, size_t words, uint8_t *out, size_t room);
 
 #ifdef __cplusplus
 }

@@ -1,6 +1,6 @@
 /* Checks table B of document 01, writes it afresh, completes it from what has no scopes and nestings, and runs it, by beats, by the
- * first thread that can step and by choices: the spork's call is promoted and joined, and main returns 7. Each answer is printed and held
- * to what it must be; the status is 1 if one is another. */
+ * first thread that can step and by choices: the spork's call is promoted and joined, and main returns 7. On the way its pool is listed
+ * for an operator and for a customer. Each answer is printed and held to what it must be; the status is 1 if one is another. */
 #include <inttypes.h>
 #include <stdio.h>
 #include <string.h>
@@ -160,6 +160,38 @@ static void orders(void) {
     same_order(busy, sizeof busy, due, 3);
 }
 
+/* A call that lists a pool. */
+typedef uint64_t listing(const uint8_t *, size_t, const int32_t *, size_t, uint8_t *, size_t);
+
+/* A listing of a pool of B is these bytes: an output that is one byte shorter is refused, and stays; behind the listing it stays too. */
+static void lists(const char *whose, listing *call, const int32_t *pool, const char *due) {
+    uint8_t out[MEZDAULK_LISTING_BYTES], kept[MEZDAULK_LISTING_BYTES];
+    const size_t words = MEZDAULK_POOL_WORDS, length = strlen(due);
+    memset(out, '.', sizeof out);
+    memcpy(kept, out, sizeof out);
+    refused("a listing with too little room", call(table, sizeof table, pool, words, out, length - 1), MEZDAULK_REFUSED_LISTING);
+    hold("the output", memcmp(out, kept, sizeof out), 0);
+    given(whose, call(table, sizeof table, pool, words, out, sizeof out), (uint32_t)length);
+    fwrite(out, 1, length, stdout);
+    hold("the listing", memcmp(out, due, length), 0);
+    hold("the output behind it", memcmp(out + length, kept + length, sizeof out - length), 0);
+}
+
+/* B's child has ended with a value: the customer sees it, and the operator sees the same whatever it is. */
+static void listings(void) {
+    static int32_t pool[MEZDAULK_POOL_WORDS];
+    const struct mezdaulk_choice choices[] = {{MEZDAULK_STEP, 0}, {MEZDAULK_PROMOTE, 0}, {MEZDAULK_STEP, 1}};
+    const char *operators = "0 1 0 1 0 1 1\n 1 1 1 0 1 0 0\n";
+    uint64_t made;
+    given("start", mezdaulk_start(table, sizeof table, pool, MEZDAULK_POOL_WORDS), 0);
+    given("step 0, promote 0, step 1", mezdaulk_schedule(table, sizeof table, pool, MEZDAULK_POOL_WORDS, choices, 3, &made), 0);
+    lists("the operator's listing", mezdaulk_operator, pool, operators);
+    lists("the customer's listing", mezdaulk_customer, pool, "0 1 0 1 0 1 1\n 1 1 1 0 1 0 0 0 7\n");
+    pool[225] = INT32_MIN; /* temporary 0 of thread 1 */
+    lists("the operator's listing", mezdaulk_operator, pool, operators);
+    lists("the customer's listing", mezdaulk_customer, pool, "0 1 0 1 0 1 1\n 1 1 1 0 1 0 0 0 -2147483648\n");
+}
+
 int main(void) {
     static int32_t pool[MEZDAULK_POOL_WORDS];
     uint8_t damaged[sizeof table];
@@ -185,6 +217,7 @@ int main(void) {
     complete();
     beats();
     orders();
+    listings();
 
     refused("start with no words", mezdaulk_start(table, bytes, NULL, 0), MEZDAULK_REFUSED_WORDS);
     given("start", mezdaulk_start(table, bytes, pool, words), 0);

@@ -1,6 +1,7 @@
 #!/usr/bin/env python3
 """Checks table B of document 01, writes it afresh, completes it from what has no scopes and nestings, and runs it, by beats, by the
-first thread that can step and by choices, through the shared object: the spork's call is promoted and joined, and main returns 7.
+first thread that can step and by choices, through the shared object: the spork's call is promoted and joined, and main returns 7. On the
+way its pool is listed for an operator and for a customer.
 
 example.py [LIBRARY]; without it MEZDAULK_LIBRARY is taken, or target/make/libmezdaulk.so of this repository, which make builds. Each
 answer is printed and held to what it must be; the status is 1 if one is another.
@@ -13,12 +14,13 @@ import sys
 # The header's names.
 POOL_WORDS = 1689
 OUTPUT_BYTES, SCRATCH_WORDS = 16384, 1024
+LISTING_BYTES = 4096
 NOWHERE = 255
 STEP, PROMOTE = 0, 1
 NO_THREAD = 8
 OPEN = 255
 REFUSED_VERSION, REFUSED_FORM, REFUSED_WORDS, REFUSED_ENDED, REFUSED_WAITS, REFUSED_ROOM = 2, 3, 12, 16, 17, 23
-REFUSED_LENT, REFUSED_UNREACHED, REFUSED_IMPOSSIBLE, REFUSED_PACE = 24, 25, 26, 27
+REFUSED_LENT, REFUSED_UNREACHED, REFUSED_IMPOSSIBLE, REFUSED_PACE, REFUSED_LISTING = 24, 25, 26, 27, 28
 RULE_STMT, RULE_SPORK, RULE_PROM, RULE_PROMOTE = 1, 7, 9, 10
 
 
@@ -81,6 +83,8 @@ CALLS = {
     "mezdaulk_schedule": TABLE + POOL + CHOICES + [ctypes.POINTER(ctypes.c_uint64)],
     "mezdaulk_beat": TABLE + POOL + [ctypes.c_uint32] * 3,
     "mezdaulk_run": TABLE + POOL + [ctypes.c_uint32] * 2 + THREADS + [ctypes.POINTER(ctypes.c_uint64)],
+    "mezdaulk_operator": TABLE + POOL + TABLE,
+    "mezdaulk_customer": TABLE + POOL + TABLE,
 }
 
 TABLE_B = bytes.fromhex(
@@ -256,6 +260,28 @@ def by_first(lib, held):
         held.hold("the values", list(values), [7, -1, -1, -1])
 
 
+def listings(lib, held):
+    """B's child has ended with a value: the customer sees it, and the operator sees the same whatever it is. An output that is one byte
+    shorter than the listing is refused, and stays; behind the listing it stays too."""
+    table = lent(TABLE_B)
+    pool = (ctypes.c_int32 * POOL_WORDS)(), POOL_WORDS
+    held.given("start", lib.mezdaulk_start(*table, *pool), 0)
+    for kind, thread, rule in ((STEP, 0, RULE_SPORK), (PROMOTE, 0, RULE_PROMOTE), (STEP, 1, RULE_STMT)):
+        held.given("a choice", lib.mezdaulk_choose(*table, *pool, kind, thread), rule)
+    operators = "0 1 0 1 0 1 1\n 1 1 1 0 1 0 0\n"
+    for value in (7, -2147483648):
+        pool[0][225] = value  # temporary 0 of thread 1
+        customers = f"0 1 0 1 0 1 1\n 1 1 1 0 1 0 0 0 {value}\n"
+        for whose, call, due in (("operator", lib.mezdaulk_operator, operators), ("customer", lib.mezdaulk_customer, customers)):
+            fresh = b"." * LISTING_BYTES
+            out = (ctypes.c_uint8 * LISTING_BYTES).from_buffer_copy(fresh)
+            held.refused(f"the {whose}'s listing with too little room", call(*table, *pool, out, len(due) - 1), REFUSED_LISTING)
+            held.hold("the output", bytes(out), fresh)
+            held.given(f"the {whose}'s listing", call(*table, *pool, out, len(out)), len(due))
+            print(bytes(out[:len(due)]).decode(), end="")
+            held.hold("the output", bytes(out), due.encode() + fresh[len(due):])
+
+
 def run(lib, held):
     """A pool is started and run to its result."""
     table = lent(TABLE_B)
@@ -291,6 +317,7 @@ def main():
     complete(lib, held)
     beats(lib, held)
     by_first(lib, held)
+    listings(lib, held)
     run(lib, held)
     return 1 if held.wrong else 0
 

@@ -11,6 +11,7 @@
 #include "asked.h"
 #include "brief_b.h"
 #include "line.h"
+#include "listed.h"
 #include "mezdaulk.h"
 #include "spawner.h"
 #include "table_b.h"
@@ -76,8 +77,8 @@ static size_t brief_bytes;
 static uint32_t *scratch;
 static size_t scratch_words;
 
-/* What a call on the table, on the table and the output, and on the table and the pool answers where it is refused for them; or what is
- * due otherwise. */
+/* What a call on the table, on the table and the output, on the table and the pool, and on all three answers where it is refused for them;
+ * or what is due otherwise. */
 static uint64_t of_table(uint64_t due) {
     return bytes == 0 ? REFUSED(MEZDAULK_REFUSED_SIZE) : due;
 }
@@ -88,6 +89,10 @@ static uint64_t of_output(uint64_t due) {
 
 static uint64_t of_pool(uint64_t due) {
     return of_table(words == 0 ? REFUSED(MEZDAULK_REFUSED_WORDS) : due);
+}
+
+static uint64_t of_listing(uint64_t due) {
+    return of_pool(room == 0 ? REFUSED(MEZDAULK_REFUSED_LISTING) : due);
 }
 
 /* Every call, with what is lent now; a pool that is there is fresh, and so is it afterwards. */
@@ -104,6 +109,8 @@ static void every_call(void) {
     hold("which", mezdaulk_which(table, bytes, pool, words), of_pool(GIVEN(0)));
     hold("values", mezdaulk_values(table, bytes, pool, words, values), of_pool(GIVEN(MEZDAULK_OPEN)));
     hold("a value", (uint64_t)values[0], (uint64_t)-1);
+    hold("operator", mezdaulk_operator(table, bytes, pool, words, out, room), of_listing(GIVEN(14)));
+    hold("customer", mezdaulk_customer(table, bytes, pool, words, out, room), of_listing(GIVEN(14)));
     hold("schedule", mezdaulk_schedule(table, bytes, pool, words, choices, count, &made), of_pool(GIVEN(0)));
     hold("made", made, all ? count : 0);
     hold("start again", mezdaulk_start(table, bytes, pool, words), of_pool(GIVEN(0)));
@@ -350,6 +357,89 @@ static void whiches(enum side side) {
     which_fenced(side, deep, length, deep_asked, sizeof deep_asked / sizeof deep_asked[0]);
 }
 
+/* A call that lists a pool. */
+typedef uint64_t listing(const uint8_t *, size_t, const int32_t *, size_t, uint8_t *, size_t);
+
+/* A listing with table, pool and output at fences: no byte, one less than the listing has, as many, and more. What is not written stays. */
+static void listing_fenced(enum side side, listing *call, const uint8_t *code, size_t length, const int32_t *content, const char *text) {
+    const size_t n = MEZDAULK_POOL_WORDS, pool_bytes = n * sizeof(int32_t), due = strlen(text);
+    const size_t rooms[] = {0, 1, due - 1, due, due + 1, MEZDAULK_LISTING_BYTES};
+    const struct fenced fence = fenced(MEZDAULK_LISTING_BYTES);
+    const struct lent lent_table = lend(side, code, length), lent_pool = lend(side, content, pool_bytes);
+    const uint8_t *t = lent_table.at;
+    const int32_t *p = (const int32_t *)(const void *)lent_pool.at;
+    size_t k;
+    for (k = 0; k < sizeof rooms / sizeof rooms[0]; k++) {
+        uint8_t *o = place(fence, side, NULL, rooms[k]);
+        const size_t written = rooms[k] < due ? 0 : due;
+        memset(fence.first, 0xA5, fence.room);
+        hold("a listing", call(t, length, p, n, o, rooms[k]), written == 0 ? REFUSED(MEZDAULK_REFUSED_LISTING) : GIVEN(due));
+        hold("its bytes", (uint64_t)(memcmp(o, text, written) != 0), 0);
+        hold("the output past it", others(fence.first, fence.room, 0xA5), written);
+    }
+    hold("a listing into nothing", call(t, length, p, n, NULL, 0), REFUSED(MEZDAULK_REFUSED_LISTING));
+    hold("a listing of too few words", call(t, length, p, n - 1, NULL, 0), REFUSED(MEZDAULK_REFUSED_WORDS));
+    hold("the table", (uint64_t)(memcmp(t, code, length) != 0), 0);
+    hold("the words", (uint64_t)(memcmp(p, content, pool_bytes) != 0), 0);
+    kept_beside("beside the table", lent_table);
+    kept_beside("beside the pool", lent_pool);
+}
+
+/* Gives every bound temporary of every frame another value. */
+static void other_values(int32_t p[MEZDAULK_POOL_WORDS]) {
+    size_t i, j, k;
+    for (i = 0; i < (size_t)p[0]; i++) {
+        for (j = 0; j < (size_t)p[1 + 211 * i]; j++) {
+            int32_t *frame = p + frame_start(i, j);
+            for (k = 0; k < 16; k++) {
+                frame[10 + k] = frame[3] >> k & 1 ? ~frame[10 + k] : 0;
+            }
+        }
+    }
+}
+
+/* Both listings of a pool; the operator's is the same with other values. Words that are no pool are refused whatever the output is. */
+static void listings_fenced(enum side side, const uint8_t *code, size_t length, int32_t *content, const char *operators,
+                            const char *customers) {
+    listing_fenced(side, mezdaulk_operator, code, length, content, operators);
+    listing_fenced(side, mezdaulk_customer, code, length, content, customers);
+    other_values(content);
+    listing_fenced(side, mezdaulk_operator, code, length, content, operators);
+    content[0] = 0;
+    hold("operator of no pool", mezdaulk_operator(code, length, content, MEZDAULK_POOL_WORDS, NULL, 0), REFUSED(MEZDAULK_REFUSED_POOL));
+    hold("customer of no pool", mezdaulk_customer(code, length, content, MEZDAULK_POOL_WORDS, NULL, 0), REFUSED(MEZDAULK_REFUSED_POOL));
+}
+
+/* The rows of a table. */
+static void listed_fenced(enum side side, const uint8_t *code, size_t length, const struct listed *rows, size_t row_count) {
+    static int32_t content[MEZDAULK_POOL_WORDS];
+    size_t k;
+    for (k = 0; k < row_count; k++) {
+        hold("choices made", listed_pool(code, length, &rows[k], content), rows[k].choice_count);
+        listings_fenced(side, code, length, content, rows[k].operators, rows[k].customers);
+    }
+}
+
+/* Of one thread and of eight, with one frame and with eight, of a tree, of a table that is not accepted, and the longest that there are. */
+static void listings(enum side side) {
+    static int32_t content[MEZDAULK_POOL_WORDS];
+    static char operators[MEZDAULK_LISTING_BYTES + 1], customers[MEZDAULK_LISTING_BYTES + 1];
+    uint8_t deep[LINE_ROOM], longest[LONGEST_BYTES];
+    const size_t length = line(deep, 1, 1);
+    listed_fenced(side, table_b, sizeof table_b, b_listed, sizeof b_listed / sizeof b_listed[0]);
+    listed_fenced(side, stuck_b, sizeof stuck_b, stuck_listed, 1);
+    listed_fenced(side, spawner, sizeof spawner, spawner_listed, 1);
+    listed_fenced(side, deep, length, deep_listed, 1);
+    listed_fenced(side, twice, sizeof twice, twice_listed, 1);
+    longest_table(longest);
+    longest_pool(content);
+    longest_listing(0, operators);
+    longest_listing(1, customers);
+    hold("an operator's longest line", strlen(strstr(operators, "       7")), 24);
+    hold("a customer's longest line", strlen(strstr(customers, "       7")), 254);
+    listings_fenced(side, longest, sizeof longest, content, operators, customers);
+}
+
 /* B completed with outputs and scratches at fences, of the right lengths and of others. What is not written stays. */
 static void complete_fenced(enum side side) {
     const size_t rooms[] = {0, MEZDAULK_OUTPUT_BYTES - 1, MEZDAULK_OUTPUT_BYTES, MEZDAULK_OUTPUT_BYTES + 1};
@@ -460,6 +550,8 @@ static void beginnings(enum side side) {
         hold("check of a beginning", mezdaulk_check(t, length), due);
         hold("depth of a beginning", mezdaulk_depth(t, length), due);
         hold("tidy of a beginning", mezdaulk_tidy(t, length, NULL, 0), due);
+        hold("operator of a beginning", mezdaulk_operator(t, length, NULL, 0, NULL, 0), due);
+        hold("customer of a beginning", mezdaulk_customer(t, length, NULL, 0, NULL, 0), due);
     }
 }
 
@@ -488,6 +580,7 @@ int main(void) {
         run_fenced((enum side)side);
         beats_fenced((enum side)side);
         whiches((enum side)side);
+        listings((enum side)side);
         tidy_fenced((enum side)side, table_b, sizeof table_b, table_b, sizeof table_b);
         tidy_fenced((enum side)side, untidy_b, sizeof untidy_b, table_b, sizeof table_b);
         beginnings((enum side)side);

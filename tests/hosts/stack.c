@@ -1,9 +1,9 @@
 /* How many bytes of stack each call takes: the call runs on a thread whose stack was filled with one byte, and afterwards the lowest
  * byte that has changed is looked for. Every call is made at each state of a run of table B, the depth on lines of sixteen functions,
  * open and closed, the tidy table on such a line and on B with dead code, the completion of such a line, of B, and of B with a block that
- * is not reached or a spawn call that is missing, a run of beats with eight threads too, and the most that it took is printed. MOST, and
- * MOST_COMPLETE where 16,384 bytes are written beforehand, are what docs/USING.md says; a call that takes more fails, and so does one
- * that seems to take nothing. */
+ * is not reached or a spawn call that is missing, a run of beats with eight threads, listings of eight threads, each the child of the one
+ * before, and with too little room too, and the most that it took is printed. MOST, and MOST_COMPLETE where 16,384 bytes are written
+ * beforehand, are what docs/USING.md says; a call that takes more fails, and so does one that seems to take nothing. */
 #define _POSIX_C_SOURCE 200809L
 #include <pthread.h>
 #include <stdio.h>
@@ -12,6 +12,7 @@
 
 #include "brief_b.h"
 #include "line.h"
+#include "longest.h"
 #include "mezdaulk.h"
 #include "spawner.h"
 #include "table_b.h"
@@ -104,6 +105,26 @@ static uint64_t call_run(void) {
     return mezdaulk_run(spawner, sizeof spawner, own, MEZDAULK_POOL_WORDS, 1, 1, spawner_threads, SPAWNER_THREADS, made);
 }
 
+/* A listing of the longest lines, of the run's pool, and of either with no room. */
+static uint64_t list(uint64_t (*listing)(const uint8_t *, size_t, const int32_t *, size_t, uint8_t *, size_t)) {
+    static uint8_t table[LONGEST_BYTES];
+    static int32_t own[MEZDAULK_POOL_WORDS];
+    static uint8_t out[MEZDAULK_LISTING_BYTES];
+    const size_t room = at & 2 ? 0 : sizeof out;
+    longest_table(table);
+    longest_pool(own);
+    return at & 1 ? listing(table_b, sizeof table_b, pool, MEZDAULK_POOL_WORDS, out, room)
+                  : listing(table, sizeof table, own, MEZDAULK_POOL_WORDS, out, room);
+}
+
+static uint64_t call_operator(void) {
+    return list(mezdaulk_operator);
+}
+
+static uint64_t call_customer(void) {
+    return list(mezdaulk_customer);
+}
+
 struct job {
     const char *name;
     uint64_t (*call)(void);
@@ -160,7 +181,8 @@ int main(void) {
         {"start", call_start, MOST, NULL, 0},   {"choose", call_choose, MOST, NULL, 0},
         {"which", call_which, MOST, NULL, 0},   {"values", call_values, MOST, NULL, 0},
         {"schedule", call_schedule, MOST, NULL, 0}, {"beat", call_beat, MOST, NULL, 0},
-        {"run", call_run, MOST, NULL, 0},       {"complete", call_complete, MOST_COMPLETE, NULL, 0},
+        {"run", call_run, MOST, NULL, 0},       {"operator", call_operator, MOST, NULL, 0},
+        {"customer", call_customer, MOST, NULL, 0}, {"complete", call_complete, MOST_COMPLETE, NULL, 0},
     };
     int passed = 0, failed = 0;
     size_t k;

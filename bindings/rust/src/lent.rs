@@ -253,3 +253,55 @@ pub fn values(table: &[u8], pool: &[i32], room: &mut [i32; 4]) -> Result<Option<
     })
     .map(|count| (count != OPEN).then_some(count as usize))
 }
+
+/// Writes the operator's listing of the pool at the start of `out`, and gives its length; `out` behind it stays.
+/// [`Pool::operator`](crate::Pool::operator) says what it has, and gives it as a text of its own. An `out` of
+/// [`LISTING_BYTES`](crate::LISTING_BYTES) has room for every listing. Refused, and nothing is written: 1 to 3, 12, 13; 28 where `out` is
+/// shorter than the listing.
+///
+/// ```
+/// use mezdaulk::{lent, Pool, Reason};
+///
+/// // One statement, 2 + 3, and a return.
+/// let table = [
+///     0, 0, 0, 30, 1, 1, 0, 1, 1, 0, 0, 0, 0, 0, 1, 0, 2, 0, 0, 0, 0, 2, 0, 0, 0, 0, 3, 3, 1, 0,
+/// ];
+/// let mut words = [0; Pool::WORDS];
+/// lent::start(&table, &mut words)?;
+/// let mut out = *b"................";
+/// assert_eq!(lent::operator(&table, &words, &mut out[..13]).unwrap_err().reason(), Reason::Listing);
+/// assert_eq!(lent::operator(&table, &words, &mut out)?, 14);
+/// assert_eq!(out, *b"0 1 0 0 0 0 0\n..");
+/// # Ok::<(), mezdaulk::Refusal>(())
+/// ```
+pub fn operator(table: &[u8], pool: &[i32], out: &mut [u8]) -> Result<usize, Refusal> {
+    // Safety: all three slices are valid for their lengths, and the output, which overlaps no other, is lent for writing alone.
+    answered(unsafe {
+        raw::mezdaulk_operator(
+            table.as_ptr(),
+            table.len(),
+            pool.as_ptr(),
+            pool.len(),
+            out.as_mut_ptr(),
+            out.len(),
+        )
+    })
+    .map(|length| length as usize)
+}
+
+/// Writes the customer's listing of the pool in the same way; 28 goes by the length of this listing.
+/// [`Pool::customer`](crate::Pool::customer) says what it has.
+pub fn customer(table: &[u8], pool: &[i32], out: &mut [u8]) -> Result<usize, Refusal> {
+    // Safety: as in `operator`.
+    answered(unsafe {
+        raw::mezdaulk_customer(
+            table.as_ptr(),
+            table.len(),
+            pool.as_ptr(),
+            pool.len(),
+            out.as_mut_ptr(),
+            out.len(),
+        )
+    })
+    .map(|length| length as usize)
+}

@@ -3,6 +3,7 @@
 //! [`check`] says yes or no to a table, [`depth`] how many frames its calls can need, [`tidy`](tidy()) writes it afresh for the
 //! archive, and [`complete`](complete()) makes one of a table without scopes and nestings; [`Pool::start`] makes a pool of it, and
 //! [`Pool::choose`] or [`Pool::schedule`] runs it, and so do [`Pool::beat`] and [`Pool::run`], which promote by tokens.
+//! [`Pool::operator`] and [`Pool::customer`] list where its threads stand, without their values and with them.
 //! A call that is refused has changed nothing, except that a schedule keeps what the choices before the refused one made, and a run what
 //! the beats before it made, and that a completion refused with 25 or 26 leaves its scratch as words of 0.
 //!
@@ -34,6 +35,7 @@
 mod beats;
 mod complete;
 pub mod lent;
+mod listing;
 mod numbers;
 mod pool;
 pub mod raw;
@@ -43,6 +45,7 @@ mod tidy;
 pub use beats::{Beat, Pace, Ran};
 pub use complete::{complete, OUTPUT_BYTES, SCRATCH_WORDS};
 pub use lent::{check, depth, read};
+pub use listing::LISTING_BYTES;
 pub use numbers::{Kind, Reason, Rule, Unknown};
 pub use pool::{Pool, Values};
 pub use raw::Choice;

@@ -97,6 +97,7 @@ numbered! {
         Unreached = 25, "no transfer from its function's entry reaches a block";
         Impossible = 26, "no scopes and nestings make a function well formed";
         Pace = 27, "N is not 1 to 65,535, or C not 1 to 255";
+        Listing = 28, "the output is shorter than the listing";
     }
 }
 

@@ -1,6 +1,7 @@
 //! A pool that has its own words.
 
 use crate::lent;
+use crate::listing::listed;
 use crate::raw::Choice;
 use crate::{Beat, Pace, Ran, Reason, Refusal, Rule};
 use std::fmt;
@@ -143,6 +144,48 @@ impl Pool {
         let mut room = [0; 4];
         let count = lent::values(table, &self.words, &mut room)?;
         Ok(count.map(|count| Values { room, count }))
+    }
+
+    /// The operator's listing: where each thread stands, and none of its values. A thread's lines are its own and then those of its
+    /// children, newest first, each child one space deeper than its parent. A line has seven numbers: the thread, how many frames it has,
+    /// and of its newest frame the function, the block, the statements done, the open spawn calls and how many of these are promoted. Two
+    /// pools that agree in all words but the sixteen values of each frame, both of them pools of the table, have the same listing.
+    /// Refused: 1 to 3, 13.
+    ///
+    /// ```
+    /// use mezdaulk::Pool;
+    /// # let table = [
+    /// #     0, 0, 0, 72, 1, 2, 0, 1, 4, 1, 1, 0, 0, 0, 0, 0, 0, 4, 1, 0, 0, 0, 0, 1, 0, 0, 5, 2, 3, 0, 0, 0, 0, 1, 0, 0,
+    /// #     0, 0, 0, 0, 1, 3, 1, 0, 1, 0, 0, 0, 0, 0, 3, 1, 0, 0, 1, 1, 0, 0, 0, 0, 0, 1, 0, 0, 0, 0, 0, 0, 7, 3, 1, 0,
+    /// # ];
+    /// let mut pool = Pool::start(&table)?;
+    /// pool.step(&table, 0)?;
+    /// pool.promote(&table, 0)?;
+    /// // Main is in block 1, with one call open and promoted; its child is at the entry of function 1.
+    /// assert_eq!(pool.operator(&table)?, "0 1 0 1 0 1 1\n 1 1 1 0 0 0 0\n");
+    /// # Ok::<(), mezdaulk::Refusal>(())
+    /// ```
+    pub fn operator(&self, table: &[u8]) -> Result<String, Refusal> {
+        listed(|out| lent::operator(table, &self.words, out))
+    }
+
+    /// The customer's listing: the operator's, with the newest frame's bound temporaries behind the seven numbers of each line, ascending,
+    /// each with its value. Refused: 1 to 3, 13.
+    ///
+    /// ```
+    /// use mezdaulk::Pool;
+    /// # let table = [
+    /// #     0, 0, 0, 30, 1, 1, 0, 1, 1, 0, 0, 0, 0, 0, 1, 0, 2, 0, 0, 0, 0, 2, 0, 0, 0, 0, 3, 3, 1, 0,
+    /// # ];
+    /// let mut pool = Pool::start(&table)?;
+    /// pool.step(&table, 0)?;
+    /// // Temporary 0 is 5.
+    /// assert_eq!(pool.customer(&table)?, "0 1 0 0 1 0 0 0 5\n");
+    /// assert_eq!(pool.operator(&table)?, "0 1 0 0 1 0 0\n");
+    /// # Ok::<(), mezdaulk::Refusal>(())
+    /// ```
+    pub fn customer(&self, table: &[u8]) -> Result<String, Refusal> {
+        listed(|out| lent::customer(table, &self.words, out))
     }
 }
 

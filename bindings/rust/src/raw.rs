@@ -118,4 +118,24 @@ extern "C" {
         count: usize,
         made: *mut u64,
     ) -> u64;
+
+    /// Where the threads stand, as text.
+    pub fn mezdaulk_operator(
+        table: *const u8,
+        bytes: usize,
+        pool: *const i32,
+        words: usize,
+        out: *mut u8,
+        room: usize,
+    ) -> u64;
+
+    /// Where the threads stand, with their values, as text.
+    pub fn mezdaulk_customer(
+        table: *const u8,
+        bytes: usize,
+        pool: *const i32,
+        words: usize,
+        out: *mut u8,
+        room: usize,
+    ) -> u64;
 }

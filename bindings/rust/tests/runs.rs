@@ -2,7 +2,7 @@
 
 use mezdaulk::{
     check, complete, depth, lent, read, tidy, Beat, Choice, Kind, Pace, Place, Pool, Ran, Reason,
-    Refusal, Rule, Unknown, OUTPUT_BYTES, SCRATCH_WORDS,
+    Refusal, Rule, Unknown, LISTING_BYTES, OUTPUT_BYTES, SCRATCH_WORDS,
 };
 
 /// One statement, and the result 5.
@@ -467,6 +467,170 @@ fn work_and_tokens_out_of_range() {
     }
 }
 
+/// Both listings of a pool.
+fn listings(table: &[u8], pool: &Pool) -> [String; 2] {
+    [pool.operator(table).unwrap(), pool.customer(table).unwrap()]
+}
+
+#[test]
+fn listings_along_a_run() {
+    let mut pool = Pool::start(&B).unwrap();
+    assert_eq!(listings(&B, &pool), ["0 1 0 0 0 0 0\n"; 2]);
+    let rows = [
+        (Choice::step(0), ["0 1 0 1 0 1 0\n"; 2]),
+        (Choice::promote(0), ["0 1 0 1 0 1 1\n 1 1 1 0 0 0 0\n"; 2]),
+        (
+            Choice::step(1),
+            [
+                "0 1 0 1 0 1 1\n 1 1 1 0 1 0 0\n",
+                "0 1 0 1 0 1 1\n 1 1 1 0 1 0 0 0 7\n",
+            ],
+        ),
+        (Choice::step(0), ["0 1 0 3 0 0 0\n", "0 1 0 3 0 0 0 0 7\n"]),
+    ];
+    for (choice, due) in rows {
+        pool.choose(&B, choice).unwrap();
+        let left = pool.clone();
+        assert_eq!(listings(&B, &pool), due);
+        assert_eq!(pool, left);
+    }
+    // Of eight frames the newest is shown.
+    let table = line(8);
+    let mut pool = Pool::start(&table).unwrap();
+    assert_eq!(pool.schedule(&table, &[Choice::step(0); 7]).0, 7);
+    assert_eq!(listings(&table, &pool), ["0 8 7 0 0 0 0\n"; 2]);
+}
+
+/// A main that opens two calls of itself, one in the other.
+const TWICE: [u8; 55] = [
+    0, 0, 0, 55, 1, 1, 0, 0, 5, 1, 0, 0, 0, 0, 0, 0, 0, 4, 1, 0, 0, 0, 0, 1, 0, 0, 4, 2, 0, 0, 0,
+    0, 2, 0, 0, 0, 5, 3, 3, 0, 0, 0, 1, 0, 0, 5, 4, 4, 0, 0, 0, 0, 0, 3, 0,
+];
+
+/// A pool of it with six threads: main's newer child with two children, and its older one with one.
+fn family() -> Pool {
+    let [step, promote] = [Choice::step, Choice::promote];
+    let choices = [
+        step(0),
+        step(0),
+        promote(0),
+        promote(0),
+        step(1),
+        step(1),
+        promote(1),
+        promote(1),
+        step(3),
+        step(4),
+        promote(4),
+        step(5),
+        step(5),
+    ];
+    let mut pool = Pool::start(&TWICE).unwrap();
+    assert_eq!(pool.schedule(&TWICE, &choices), (13, Ok(())));
+    pool
+}
+
+/// Binds a temporary of a thread's first frame.
+fn bind(pool: &mut Pool, thread: usize, temporary: usize, value: i32) {
+    let frame = 4 + 211 * thread;
+    pool.as_mut()[frame + 3] |= 1 << temporary;
+    pool.as_mut()[frame + 10 + temporary] = value;
+}
+
+#[test]
+fn listings_of_a_tree() {
+    assert_eq!(check(&TWICE), Ok(()));
+    let mut pool = family();
+    let operator = "\
+0 1 0 2 0 2 2
+ 1 1 0 2 0 2 2
+  2 1 0 0 0 0 0
+  3 1 0 1 0 1 0
+ 4 1 0 1 0 1 1
+  5 1 0 2 0 2 0
+";
+    assert_eq!(listings(&TWICE, &pool), [operator; 2]);
+    bind(&mut pool, 0, 0, -1);
+    for (temporary, value) in [(9, i32::MAX), (10, i32::MIN), (15, 0)] {
+        bind(&mut pool, 3, temporary, value);
+    }
+    let customer = "\
+0 1 0 2 0 2 2 0 -1
+ 1 1 0 2 0 2 2
+  2 1 0 0 0 0 0
+  3 1 0 1 0 1 0 9 2147483647 10 -2147483648 15 0
+ 4 1 0 1 0 1 1
+  5 1 0 2 0 2 0
+";
+    assert_eq!(listings(&TWICE, &pool), [operator, customer]);
+    // Work and tokens are not listed.
+    pool.as_mut()[2..4].copy_from_slice(&[65_534, 2_000_000_000]);
+    assert_eq!(listings(&TWICE, &pool), [operator, customer]);
+}
+
+/// Pools that agree in all but values, and are pools of the table, are the same to the operator, whatever is lent.
+#[test]
+fn the_operator_sees_no_values() {
+    let [mut one, mut other] = [family(), family()];
+    for thread in 0..6 {
+        for temporary in [thread, 15] {
+            bind(&mut one, thread, temporary, 0);
+            bind(&mut other, thread, temporary, i32::MIN);
+        }
+    }
+    assert_ne!(one.customer(&TWICE), other.customer(&TWICE));
+    for room in 0..LISTING_BYTES {
+        let mut outs = [[9; LISTING_BYTES]; 2];
+        let answers = [
+            lent::operator(&TWICE, one.words(), &mut outs[0][..room]),
+            lent::operator(&TWICE, other.words(), &mut outs[1][..room]),
+        ];
+        assert_eq!(answers[0], answers[1]);
+        assert_eq!(outs[0], outs[1]);
+    }
+    // The value of a temporary that is not bound is 0, or it is no pool.
+    other.as_mut()[4 + 10 + 14] = 1;
+    assert_eq!(reason(other.operator(&TWICE)), Reason::Pool);
+    assert_eq!(reason(other.customer(&TWICE)), Reason::Pool);
+}
+
+type Listing = fn(&[u8], &[i32], &mut [u8]) -> Result<usize, Refusal>;
+
+#[test]
+fn outputs_of_listings() {
+    let mut pool = family();
+    bind(&mut pool, 5, 3, -20);
+    let own = listings(&TWICE, &pool);
+    assert_eq!(own[1].len(), own[0].len() + " 3 -20".len());
+    for (listing, due) in [lent::operator as Listing, lent::customer].iter().zip(&own) {
+        let length = due.len();
+        for room in [0, 1, length - 1, length, length + 1, LISTING_BYTES] {
+            let mut out = [9; LISTING_BYTES];
+            let answer = listing(&TWICE, pool.words(), &mut out[..room]);
+            let written = if room < length {
+                let refused = answer.unwrap_err();
+                assert_eq!((refused.reason(), refused.place()), (Reason::Listing, None));
+                assert_eq!(
+                    refused.to_string(),
+                    "the output is shorter than the listing (refusal 28)"
+                );
+                0
+            } else {
+                assert_eq!(answer, Ok(length));
+                length
+            };
+            assert_eq!(out[..written], due.as_bytes()[..written]);
+            assert!(out[written..].iter().all(|&byte| byte == 9));
+        }
+        // The table, the number of words and the pool come before it.
+        let words = pool.words();
+        assert_eq!(reason(listing(&[], words, &mut [])), Reason::Size);
+        assert_eq!(reason(listing(&TWICE, &words[1..], &mut [])), Reason::Words);
+        assert_eq!(reason(listing(&A, words, &mut [])), Reason::Pool);
+        assert_eq!(reason(listing(&TWICE, words, &mut [])), Reason::Listing);
+    }
+}
+
 #[test]
 fn as_many_values_as_main_returns() {
     let two = [
@@ -495,7 +659,7 @@ fn words_of_another_number() {
 #[test]
 fn numbers_by_name() {
     let reasons: Vec<u8> = Reason::ALL.iter().map(|r| r.number()).collect();
-    assert_eq!(reasons, (1..=27).collect::<Vec<u8>>());
+    assert_eq!(reasons, (1..=28).collect::<Vec<u8>>());
     let rules: Vec<u8> = Rule::ALL.iter().map(|&rule| rule.into()).collect();
     assert_eq!(rules, (1..=10).collect::<Vec<u8>>());
     for &reason in Reason::ALL {
@@ -504,7 +668,7 @@ fn numbers_by_name() {
     for &rule in Rule::ALL {
         assert_eq!(Rule::try_from(rule.number()), Ok(rule));
     }
-    assert_eq!(Reason::try_from(28), Err(Unknown(28)));
+    assert_eq!(Reason::try_from(29), Err(Unknown(29)));
     assert_eq!(Rule::try_from(0), Err(Unknown(0)));
     assert_eq!(Kind::try_from(1), Ok(Kind::Promote));
     assert_eq!(Choice::new(Kind::Promote, 3), Choice { kind: 1, thread: 3 });

@@ -1,5 +1,7 @@
 -- The code's refusal and answers as the model's, with document 01's number and place.
 use Prim.Native.Nat.{ℕ}
+use mathlib.Core.Path.{_≡_}
+use mathlib.Core.List.{List}
 use Rattle.model.specs.Answers as Model
 use Rattle.answers.specs.declared.Refusal.{Refusal}
 use Rattle.answers.specs.declared.Refusal.the-variants.{Plain, Byte, Fault}
@@ -20,3 +22,8 @@ answerOf (Refused r) = Model.Answer.refused (refusalOf r)
 abbrev pub writtenOf : Written → Model.Answer ℕ
 writtenOf (written.Bytes n) = Model.Answer.given n
 writtenOf (written.Refused why) = Model.Answer.refused (refusalOf why)
+
+-- the answer of a call that writes bytes, and the output afterwards
+pub record Writes (w : Model.Wrote) (r : Written) (out : List ℕ) : Type 0 where
+  pub answer : writtenOf r ≡ w .answer
+  pub after : out ≡ w .after

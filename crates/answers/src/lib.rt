@@ -69,6 +69,9 @@ impl No {
 
     // a beat, and a run of beats
     pub const PACE: u8 = 27;
+
+    // a listing
+    pub const LISTING: u8 = 28;
 }
 
 // The rules of figure 3.
@@ -109,7 +112,7 @@ pub enum Answer {
     Refused(Refusal),
 }
 
-// The answer of a call that writes a table: how many bytes it has.
+// The answer of a call that writes a table or a listing: how many bytes it has.
 pub enum Written {
     Bytes(u32),
     Refused(Refusal),

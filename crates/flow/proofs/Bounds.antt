@@ -1,11 +1,10 @@
 -- How long the texts are at most: a byte says 96 bytes at most.
-use Prim.Native.Nat.{ℕ, zero, suc, _+_, _*_, _/_, _%_, _≤_}
+use Prim.Native.Nat.{ℕ, _+_, _*_, _≤_}
 use native.Mathlib.Omega.{arith}
 use mathlib.Core.Path.{_≡_, refl}
-use mathlib.Core.Bool.{Bool, true, false, cond}
 use mathlib.Core.Option.{Option, none, some}
 use mathlib.Core.List.{List, [], _∷_, _++_, map}
-use lib.Dec.{ltb, eqb}
+use lib.Dec.{eqb}
 use lib.IntN.{ℤ, pos, negsuc}
 use lib.ListN.{length, length-append}
 use Rattle.model.specs.Numbers as No
@@ -13,32 +12,11 @@ use Rattle.model.specs.Answers.{Refusal, Answer}
 use Rattle.model.specs.Lists.{concat}
 use Rattle.model.specs.Syntax.{Program}
 use Rattle.model.specs.Rules.{Result, choice}
-use Rattle.model.specs.Text.{ascii, newline, digit, spaced, decimalIn, decimal, signedDecimal, part, signedPart}
+use Rattle.model.specs.Text.{ascii, newline, spaced, decimal, signedDecimal, part, signedPart}
 use Rattle.model.specs.Output.{kindName, ruleName, refusal, answered, told, choiceLine, valuesOrOpen, resultLine}
 use Rattle.model.specs.Calls.{accepted}
+use Rattle.model.proofs.Texts.{either-most, both-most, decimal-most, part-most}
 use Rattle.flow.specs.Stages.{Stage, whole, opening, next, says, said}
-
-either-most : (b : Bool) (xs ys : List ℕ) (n : ℕ) → length xs ≤ n → length ys ≤ n → length (cond b xs ys) ≤ n
-either-most true xs ys n a b = a
-either-most false xs ys n a b = b
-
-digits-most : (k n : ℕ) → length (decimalIn k n) ≤ k
-unfolding decimalIn
-digits-most zero n = omega arith
-digits-most (suc k) n =
-    let e = length-append (decimalIn k (n / 10)) (digit (n % 10) ∷ []) in
-    let h = digits-most k (n / 10) in either-most (ltb n 10) _ _ (suc k) (omega arith) (omega arith)
-
-decimal-most : (n : ℕ) → length (decimal n) ≤ 20
-unfolding decimal
-decimal-most n = digits-most 20 n
-
-part-most : (n : ℕ) → length (part n) ≤ 21
-unfolding part
-part-most n = let h = decimal-most n in omega arith
-
-both-most : (xs ys : List ℕ) (m n : ℕ) → length xs ≤ m → length ys ≤ n → length (xs ++ ys) ≤ m + n
-both-most xs ys m n a b = let e = length-append xs ys in omega arith
 
 kind-most : (kind : ℕ) → length (kindName kind) ≤ 20
 unfolding kindName

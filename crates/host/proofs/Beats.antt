@@ -7,6 +7,7 @@ use mathlib.Core.Option.{some}
 use mathlib.Core.List.{List, [], _∷_}
 use native.Mathlib.Numerals.{add-one}
 use native.Mathlib.Omega.{arith}
+use lib.Dec.{lit≤}
 use lib.IntN.{ℤ}
 use lib.ListN.{length, getD, getElem?}
 use Rattle.model.specs.Numbers as No
@@ -96,7 +97,7 @@ module _ (s : List ℕ) (ws : List ℤ) (i N C : ℕ) where
 -- what it is refused fits into a number, and what the macros then read
 lent-at-fits : {s : List ℕ} (q : Refusal) → OfLentAt s q → Fits q
 lent-at-fits q (OfLentAt.lends h) = lent-fits q h
-lent-at-fits _ OfLentAt.pace = Bare.ofPace refl
+lent-at-fits _ OfLentAt.pace = Bare.ofLater (lit≤ tt, lit≤ tt)
 
 lent-at-told : {s : List ℕ} {q : Refusal} → OfLentAt s q → BeforeBeat s (codeOf q)
 lent-at-told (OfLentAt.lends h) = inl (lent-told h)

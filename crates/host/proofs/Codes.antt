@@ -38,7 +38,7 @@ given-in v h = rw (given-is v h, given-value v h)
 pub data Bare (n : ℕ) : Type 0 where
   ofTable : Within 1 2 n → Bare n
   ofCall : Within 12 24 n → Bare n
-  ofPace : n ≡ No.pace → Bare n
+  ofLater : Within 27 28 n → Bare n
 
 -- a refusal that a number has room for
 abbrev pub Fits : Refusal → Type 0
@@ -49,7 +49,7 @@ Fits (Refusal.fault n f b) = (Within 4 11 n ⊎ Within 25 26 n) × (f < 16) × (
 pub small : (q : Refusal) → Fits q → codeOf q < 2 ^ 32
 small (Refusal.plain n) (Bare.ofTable h) = omega arith
 small (Refusal.plain n) (Bare.ofCall h) = omega arith
-small (Refusal.plain n) (Bare.ofPace h) = omega arith
+small (Refusal.plain n) (Bare.ofLater h) = omega arith
 small (Refusal.byte at) h = omega arith
 small (Refusal.fault n f b) (inl w, i, j) = omega arith
 small (Refusal.fault n f b) (inr w, i, j) = omega arith
@@ -65,7 +65,10 @@ unplaced n (Bare.ofCall h) = (
   ne-eqb n No.form (λ e. omega arith),
   rw (right-false (leb No.main n) _ (lt-leb n No.nesting (omega arith)), lt-leb No.unreached n (omega arith)),
 )
-unplaced n (Bare.ofPace h) = rw h (refl, refl)
+unplaced n (Bare.ofLater h) = (
+  ne-eqb n No.form (λ e. omega arith),
+  rw (right-false (leb No.main n) _ (lt-leb n No.nesting (omega arith)), right-false (leb No.unreached n) _ (lt-leb n No.impossible (omega arith))),
+)
 
 is-placed : (n : ℕ) → Within 4 11 n ⊎ Within 25 26 n → (eqb n No.form ≡ false) × (placed n ≡ true)
 unfolding placed
@@ -98,7 +101,7 @@ module _ (r : ℕ) where
 pub refusal-in : (q : Refusal) → Fits q → refusalIn (codeOf q) ≡ q
 refusal-in (Refusal.plain n) (Bare.ofTable h) = plain-in n n (omega arith) (Bare.ofTable h)
 refusal-in (Refusal.plain n) (Bare.ofCall h) = plain-in n n (omega arith) (Bare.ofCall h)
-refusal-in (Refusal.plain n) (Bare.ofPace h) = plain-in n n (omega arith) (Bare.ofPace h)
+refusal-in (Refusal.plain n) (Bare.ofLater h) = plain-in n n (omega arith) (Bare.ofLater h)
 refusal-in (Refusal.byte at) h = byte-in _ at (omega arith) (omega arith)
 refusal-in (Refusal.fault n f b) (inl w, i, j) = fault-in _ n f b (omega arith) (inl w) (omega arith) (omega arith)
 refusal-in (Refusal.fault n f b) (inr w, i, j) = fault-in _ n f b (omega arith) (inr w) (omega arith) (omega arith)

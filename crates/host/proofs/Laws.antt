@@ -12,13 +12,13 @@ use lib.ListN.{length, getD, getElem?, take, drop}
 use lib.Seq.{take-append-seam, drop-append-seam}
 use Rattle.model.specs.Numbers as No
 use Rattle.model.specs.Numbers.{Within, RuleOf}
-use Rattle.model.specs.Answers.{Refusal, Answer, numberOf, outcome}
+use Rattle.model.specs.Answers.{Refusal, Answer, numberOf, outcome, Wrote, put}
 use Rattle.model.specs.Syntax.{Function, Program}
 use Rattle.model.specs.Limits.{InFunction}
 use Rattle.model.specs.Pool.{wordsOf, started}
 use Rattle.model.specs.Calls as Calls
 use Rattle.model.specs.Calls.{Choice, lent}
-use Rattle.model.proofs.Facts.{true-false, refused-given, ne-eqb, leb-true, leb-false, each-at, at-below}
+use Rattle.model.proofs.Facts.{true-false, refused-given, ne-eqb, leb-true, leb-false, each-at, at-below, put-fits, put-short}
 use Rattle.model.proofs.Words.{started-words}
 use Rattle.model.proofs.Accepted.{check-wf}
 use Rattle.model.proofs.Guarantees.{sized-is, reads, read-limits}
@@ -30,9 +30,8 @@ use Rattle.answers.specs.Coded.{given, codeOf}
 use Rattle.chains.specs.Depth.{depth}
 use Rattle.chains.specs.Means.{Accepted}
 use Rattle.chains.proofs.Means.{depth-means}
-use Rattle.numbering.specs.Tidy.{Wrote, put, tidy}
+use Rattle.numbering.specs.Tidy.{tidy}
 use Rattle.numbering.specs.Means.{Tidies}
-use Rattle.numbering.proofs.Answers.{put-fits, put-short}
 use Rattle.numbering.proofs.Theorem.{tidy-means}
 use Rattle.inference.proofs.Theorem.{completion-means}
 use Rattle.first.specs.Means.{Steps, Right}
@@ -50,6 +49,8 @@ use Rattle.host.proofs.Tables.{table-fits, table-told}
 use Rattle.host.proofs.Refusals.{start-fits, start-told, lent-fits, lent-told, pool-below, done-in, done-gave, done-refused}
 use Rattle.host.proofs.Beats.{choose-first, beat-law, run-law}
 use Rattle.host.proofs.Completion.{complete-law}
+use Rattle.host.proofs.Written.{was-put, was-refused}
+use Rattle.host.proofs.Views.{listing-law}
 use Rattle.host.proofs.Macros.{given-read, read-given, read-refused, done-read, stopped-read, read-done}
 
 -- what a choice can be refused fits into a number, and what the macros then read
@@ -223,39 +224,6 @@ tidied s out = go (Calls.check s) refl (check-can s)
 accepted-short : (s : List ℕ) → Calls.check s ≡ Answer.given tt → length s ≤ 16384
 accepted-short s e = sized-is s _ (reads s (check-wf s e .0) (check-wf s e .1) .sized) .most
 
--- the number and the output of a tidy table that fits
-record Put (out t : List ℕ) (r : ℕ) (out′ : List ℕ) : Type 0 where
-  told : answerIn r ≡ Answer.given (length t)
-  yes : isGiven r ≡ true
-  counted : value r ≡ length t
-  is : out′ ≡ t ++ drop (length t) out
-  front : take (value r) out′ ≡ t
-
-was-put : (s out t : List ℕ) (r : ℕ) (out′ : List ℕ) → Tidy s out r out′ → length t ≤ 16384 →
-    tidy s out ≡ record { answer = Answer.given (length t); after = t ++ drop (length t) out } → Put out t r out′
-unfolding asNumber
-was-put s out t r out′ m l e =
-    let n : r ≡ given (length t) = m .number ∙ ap (λ (w : Wrote). asNumber (w .answer)) e in
-    let a : answerIn r ≡ Answer.given (length t) = ap answerIn n ∙ given-in (length t) (omega arith) in
-    let v : value r ≡ length t = read-given r a .1 in
-    let o : out′ ≡ t ++ drop (length t) out = m .bytes ∙ ap (λ (w : Wrote). w .after) e in
-    record {
-      told = a;
-      yes = read-given r a .0;
-      counted = v;
-      is = o;
-      front = rw (v, o) (take-append-seam t (drop (length t) out));
-    }
-
--- the number of a refusal
-was-refused : (s out : List ℕ) (q : Refusal) (r : ℕ) (out′ : List ℕ) → Tidy s out r out′ → Fits q →
-    tidy s out ≡ record { answer = Answer.refused q; after = out } → (r ≡ codeOf q) × (answerIn r ≡ Answer.refused q) × (isGiven r ≡ false)
-unfolding asNumber
-was-refused s out q r out′ m f e =
-    let n : r ≡ codeOf q = m .number ∙ ap (λ (w : Wrote). asNumber (w .answer)) e in
-    let a : answerIn r ≡ Answer.refused q = ap answerIn n ∙ refused-in q f in
-    (n, a, read-refused r a .0)
-
 tidies-short : {s t : List ℕ} → Calls.check s ≡ Answer.given tt → Tidies s t → length t ≤ 16384
 tidies-short {s} h T = let x = T .shorter in let y = accepted-short s h in omega arith
 
@@ -265,7 +233,7 @@ tidy-law s out r out′ m = go (tidied s out)
   where
     go : Tidied s out → TidyTells s out r out′
     go (Tidied.unchecked q h k e) =
-        let (n, a, not) = was-refused s out q r out′ m (check-fits q h) e in
+        let (n, a, not) = was-refused out q r out′ m (check-fits q h) e in
         record {
           answers = a ∙ sym (ap (λ (w : Wrote). w .answer) e);
           given = λ g. true-false (isGiven r) g not;
@@ -278,7 +246,7 @@ tidy-law s out r out′ m = go (tidied s out)
           unwritten = λ g. m .bytes ∙ ap (λ (w : Wrote). w .after) e;
         }
     go (Tidied.fits h t T l e) =
-        let p = was-put s out t r out′ m (tidies-short h T) e in
+        let p = was-put out t r out′ m (tidies-short h T) e in
         record {
           answers = p .told ∙ sym (ap (λ (w : Wrote). w .answer) e);
           given = λ g. rw (p .counted) (T .shorter, l);
@@ -296,7 +264,7 @@ tidy-law s out r out′ m = go (tidied s out)
           unwritten = λ z. true-false (isGiven r) (p .yes) z;
         }
     go (Tidied.short h t T l e) =
-        let (n, a, not) = was-refused s out (Refusal.plain No.room) r out′ m (Bare.ofCall (lit≤ tt, lit≤ tt)) e in
+        let (n, a, not) = was-refused out (Refusal.plain No.room) r out′ m (Bare.ofCall (lit≤ tt, lit≤ tt)) e in
         record {
           answers = a ∙ sym (ap (λ (w : Wrote). w .answer) e);
           given = λ g. true-false (isGiven r) g not;
@@ -318,12 +286,12 @@ pub tidy-archived : (s out : List ℕ) (r : ℕ) (out′ : List ℕ) → Tidy s 
 tidy-archived s out r out′ m g = go (tidied s out)
   where
     go : Tidied s out → Archived s (take (value r) out′)
-    go (Tidied.unchecked q h k e) = true-false (isGiven r) g (was-refused s out q r out′ m (check-fits q h) e .2)
+    go (Tidied.unchecked q h k e) = true-false (isGiven r) g (was-refused out q r out′ m (check-fits q h) e .2)
     go (Tidied.fits h t T l e) =
-        let p = was-put s out t r out′ m (tidies-short h T) e in
+        let p = was-put out t r out′ m (tidies-short h T) e in
         record { accepted = h; tidies = rw (p .front) T }
     go (Tidied.short h t T l e) =
-        true-false (isGiven r) g (was-refused s out (Refusal.plain No.room) r out′ m (Bare.ofCall (lit≤ tt, lit≤ tt)) e .2)
+        true-false (isGiven r) g (was-refused out (Refusal.plain No.room) r out′ m (Bare.ofCall (lit≤ tt, lit≤ tt)) e .2)
 
 -- the words of the fresh pool
 started-fresh : wordsOf started ≡ fresh
@@ -584,4 +552,5 @@ laws =
       run = run-law;
       which = which-law;
       values = values-law;
+      listing = listing-law;
     }

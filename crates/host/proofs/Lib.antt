@@ -4,8 +4,10 @@ pub mod Tables
 pub mod Refusals
 pub mod Beats
 pub mod Completion
-pub mod Laws
 pub mod Macros
+pub mod Written
+pub mod Views
+pub mod Laws
 pub mod Sessions
 pub mod Roomy
 pub mod Tokens

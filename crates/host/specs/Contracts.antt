@@ -11,6 +11,8 @@ use Rattle.chains.specs.Depth.{depth}
 use Rattle.numbering.specs.Tidy.{tidy}
 use Rattle.inference.specs.Complete.{complete}
 use Rattle.tokens.specs.Beats as Beats
+use Rattle.views.specs.Lines.{Viewer}
+use Rattle.views.specs.Listing.{list}
 use Rattle.host.specs.Exports as Exports
 use Rattle.host.specs.Exports.{done, asNumber, beatNumber, stepperOf, Gives, Writes, Completes, Tells, Runs}
 
@@ -51,6 +53,16 @@ Run s ws n c threads r made ws′ = Runs (Beats.run s ws n c threads) r made ws�
 
 abbrev pub Which : List ℕ → List ℤ → ℕ → Type 0
 Which s ws r = r ≡ stepperOf (Calls.which s ws)
+
+-- a listing: the output before and afterwards. The operator's, and the customer's
+abbrev pub Listing : Viewer → List ℕ → List ℤ → List ℕ → ℕ → List ℕ → Type 0
+Listing who s ws out r out′ = Writes (list who s ws out) r out′
+
+abbrev pub Operator : List ℕ → List ℤ → List ℕ → ℕ → List ℕ → Type 0
+Operator s ws out r out′ = Listing Viewer.operator s ws out r out′
+
+abbrev pub Customer : List ℕ → List ℤ → List ℕ → ℕ → List ℕ → Type 0
+Customer s ws out r out′ = Listing Viewer.customer s ws out r out′
 
 -- the words lent for main's values before and afterwards
 abbrev pub Values : List ℕ → List ℤ → List ℤ → ℕ → List ℤ → Type 0

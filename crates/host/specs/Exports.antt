@@ -5,10 +5,9 @@ use mathlib.Core.Option.{Option, none, some}
 use mathlib.Core.List.{List, [], _∷_}
 use lib.IntN.{ℤ}
 use lib.ListN.{length}
-use Rattle.model.specs.Answers.{Answer}
+use Rattle.model.specs.Answers.{Answer, Wrote}
 use Rattle.model.specs.Calls as Calls
 use Rattle.model.specs.Calls.{Called}
-use Rattle.numbering.specs.Tidy.{Wrote}
 use Rattle.inference.specs.Complete.{Completed}
 use Rattle.tokens.specs.Beats.{Beat, Told}
 use Rattle.answers.specs.Coded.{given, codeOf}
@@ -19,7 +18,7 @@ unfoldable pub done : Answer (Unit {0}) → ℕ
 done (Answer.given u) = given 0
 done (Answer.refused r) = codeOf r
 
--- an answer that gives a number: a choice's rule, the depth of a table, the length of the tidy or the completed table
+-- an answer that gives a number: a choice's rule, the depth of a table, the length of the tidy or the completed table or of a listing
 unfoldable pub asNumber : Answer ℕ → ℕ
 asNumber (Answer.given n) = given n
 asNumber (Answer.refused r) = codeOf r

@@ -20,9 +20,12 @@ use Rattle.numbering.specs.Tidy.{tidy}
 use Rattle.inference.specs.Complete.{scratchWords, outputBytes, cleared, complete}
 use Rattle.tokens.specs.Beats as Beats
 use Rattle.tokens.specs.Beats.{mostN, mostC}
+use Rattle.views.specs.Lines.{Viewer}
+use Rattle.views.specs.Listing.{list}
 use Rattle.host.specs.Macros.{isGiven, value, number, place, block, function, rule, promotions, poolWords, step, noThread}
-use Rattle.host.specs.Macros.{stillOpen}
+use Rattle.host.specs.Macros.{stillOpen, listingBytes}
 use Rattle.host.specs.Contracts.{Read, Check, Depth, Tidy, Complete, Start, Choose, Schedule, Beat, Run, Which, Values}
+use Rattle.host.specs.Contracts.{Listing}
 
 -- has a refusal of this number a function and a block: 4 to 11, 25 and 26
 unfoldable pub placed : ℕ → Bool
@@ -237,6 +240,24 @@ pub record ValuesTells (s : List ℕ) (ws vs : List ℤ) (r : ℕ) (vs′ : List
   pub unwritten : isGiven r ≡ true → value r ≡ stillOpen → vs′ ≡ vs
   pub refused : isGiven r ≡ false → OfPool s r × (vs′ ≡ vs)
 
+-- mezdaulk_operator and mezdaulk_customer, each for its viewer: the value is the length of the listing, which stands at the start of the
+-- output; the bytes behind it stay. It is never above 4,096. Whatever other output is lent: with room for so many bytes it is given the
+-- same, and with less it gets 28. What mezdaulk_which is refused in its place gets the same number; else it is given or gets 28, which it
+-- never does with 4,096 bytes. Refused, nothing is written
+pub record ListingTells (who : Viewer) (s : List ℕ) (ws : List ℤ) (out : List ℕ) (r : ℕ) (out′ : List ℕ) : Type 0 where
+  pub answers : answerIn r ≡ list who s ws out .answer
+  pub given : isGiven r ≡ true → (value r ≤ length out) × (value r ≤ listingBytes)
+  pub again : isGiven r ≡ true → (e : List ℕ) (q : ℕ) (e′ : List ℕ) → Listing who s ws e q e′ → value r ≤ length e →
+      (q ≡ r) × (take (value r) e′ ≡ take (value r) out′)
+  pub behind : isGiven r ≡ true → drop (value r) out′ ≡ drop (value r) out
+  pub shorter : isGiven r ≡ true → (e : List ℕ) (q : ℕ) (e′ : List ℕ) → Listing who s ws e q e′ → length e < value r →
+      (isGiven q ≡ false) × (number q ≡ No.listing)
+  pub refused : isGiven r ≡ false → OfPool s r ⊎ (number r ≡ No.listing)
+  pub unlent : (w : ℕ) → Which s ws w → isGiven w ≡ false → r ≡ w
+  pub short : (w : ℕ) → Which s ws w → isGiven w ≡ true → isGiven r ≡ false → number r ≡ No.listing
+  pub enough : (w : ℕ) → Which s ws w → isGiven w ≡ true → listingBytes ≤ length out → isGiven r ≡ true
+  pub unwritten : isGiven r ≡ false → out′ ≡ out
+
 -- whatever an exported function answered by its contract
 pub record Laws : Type 0 where
   pub read : (s : List ℕ) (r : ℕ) → Read s r → ReadTells s r
@@ -257,3 +278,5 @@ pub record Laws : Type 0 where
   pub which : (s : List ℕ) (ws : List ℤ) (r : ℕ) → Which s ws r → WhichTells s ws r
   pub values : (s : List ℕ) (ws vs : List ℤ) (r : ℕ) (vs′ : List ℤ) → length vs ≡ 4 → Values s ws vs r vs′ →
       ValuesTells s ws vs r vs′
+  pub listing : (who : Viewer) (s : List ℕ) (ws : List ℤ) (out : List ℕ) (r : ℕ) (out′ : List ℕ) → Listing who s ws out r out′ →
+      ListingTells who s ws out r out′

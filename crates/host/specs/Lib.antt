@@ -8,3 +8,4 @@ pub mod Archive
 pub mod First
 pub mod Tokens
 pub mod Children
+pub mod Views

@@ -3,6 +3,7 @@ use Prim.Native.Nat.{ℕ, _^_, _/_, _%_}
 use mathlib.Core.Bool.{Bool}
 use lib.Dec.{eqb}
 use Rattle.model.specs.Pool as Pool
+use Rattle.views.specs.Means as Views
 
 -- bit 32: the call is given; and the value of what is given, in the low 32 bits
 abbrev pub isGiven : ℕ → Bool
@@ -31,9 +32,12 @@ rule r = r % 256
 abbrev pub promotions : ℕ → ℕ
 promotions r = r / 256 % 2 ^ 24
 
--- a pool's length in words; the kinds of a choice
+-- a pool's length in words; as many bytes as a listing has at most; the kinds of a choice
 abbrev pub poolWords : ℕ
 poolWords = Pool.poolWords
+
+abbrev pub listingBytes : ℕ
+listingBytes = Views.listingBytes
 
 abbrev pub step : ℕ
 step = 0

@@ -3,13 +3,13 @@ use Prim.Native.Nat.{ℕ, _<_}
 use mathlib.Core.Path.{_≡_, sym, ap, _∙_}
 use mathlib.Core.List.{List, [], _∷_}
 use lib.IntN.{ℤ}
-use Rattle.model.specs.Answers.{Answer}
+use Rattle.model.specs.Answers.{Answer, Wrote}
 use Rattle.model.specs.Pool.{mostThreads}
 use Rattle.model.specs.Calls.{Called}
 use Rattle.calls.specs.Calls.{called}
-use Rattle.numbering.specs.Tidy.{Wrote}
 use Rattle.inference.specs.Complete.{Completed}
 use Rattle.answers.specs.declared.Written.{Written}
+use Rattle.answers.specs.Answers as Answers
 use Rattle.answers.specs.Answers.{writtenOf}
 use Rattle.tokens.specs.Beats.{beat, Told}
 use Rattle.tokens.proofs.Few.{beat-few}
@@ -17,7 +17,6 @@ use Rattle.beats.specs.declared.Beaten.{Beaten}
 use Rattle.beats.specs.declared.Beaten.the-variants.{Made}
 use Rattle.beats.specs.declared.Ran.{Ran}
 use Rattle.beats.specs.Beating.{beatenOf, calledOf, toldOf}
-use Rattle.tidy.specs.Writes as Tidy
 use Rattle.complete.specs.Writes as Complete
 use Rattle.host.specs.Exports.{done, asNumber, Gives, Writes, Completes, Runs}
 use Rattle.mezdaulk.specs.Reports.{RunReports}
@@ -53,7 +52,7 @@ runs {t} {n} {made} r {ws} h e =
     }
 
 -- a call that leaves bytes
-pub wrote : {w : Wrote} {n : ℕ} (r : Written) {out : List ℕ} → Tidy.Writes w r out → n ≡ asNumber (writtenOf r) → Writes w n out
+pub wrote : {w : Wrote} {n : ℕ} (r : Written) {out : List ℕ} → Answers.Writes w r out → n ≡ asNumber (writtenOf r) → Writes w n out
 wrote r h d = record { number = d ∙ ap asNumber (h .answer); bytes = h .after }
 
 -- and words

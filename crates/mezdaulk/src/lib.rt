@@ -210,3 +210,17 @@ pub extern "C" fn mezdaulk_run(
 {
     report_run(beats::run(table, pool, n, c, threads), made)
 }
+
+#[no_mangle]
+pub extern "C" fn mezdaulk_operator(table: &[u8], pool: &[i32], out: &mut [u8]) -> u64
+    ensures { λ r. ⌜ Contracts.Operator (now (table .entry)) (now (pool .entry)) (now (out .entry)) r (now (out .exit)) ⌝ }
+{
+    wrote(listing::operator(table, pool, out))
+}
+
+#[no_mangle]
+pub extern "C" fn mezdaulk_customer(table: &[u8], pool: &[i32], out: &mut [u8]) -> u64
+    ensures { λ r. ⌜ Contracts.Customer (now (table .entry)) (now (pool .entry)) (now (out .entry)) r (now (out .exit)) ⌝ }
+{
+    wrote(listing::customer(table, pool, out))
+}

@@ -11,7 +11,7 @@ use native.Mathlib.Omega.{arith}
 use lib.Dec.{eqb}
 use lib.ListN.{length, getD, getElem?, take, drop, replicate}
 use lib.Seq.{drop-nil}
-use Rattle.model.specs.Answers.{Refusal, Answer, outcome}
+use Rattle.model.specs.Answers.{Refusal, Answer, outcome, put}
 use Rattle.model.specs.Lists.{all, Each, equal, Snoc, snoc, unsnoc}
 pub use borrow.Author.Tests.{ltb-true, ltb-false, leb-true, leb-false, eqb-true, eqb-false, not-true, not-false, lt-ltb, le-ltb, le-leb}
 pub use borrow.Author.Tests.{lt-leb, eq-eqb, ne-eqb}
@@ -234,3 +234,13 @@ pub drop-replicate : {A : Type 0} (n k : ℕ) (x : A) → drop k (replicate n x)
 drop-replicate zero k x = let z : 0 - k ≡ 0 = omega arith in rw z (drop-nil k)
 drop-replicate (suc n) zero x = let z : suc n - 0 ≡ suc n = omega arith in rw z
 drop-replicate (suc n) (suc k) x = let z : suc n - suc k ≡ n - k = omega arith in rw z (drop-replicate n k x)
+
+-- bytes that fit into lent ones, and bytes that do not
+module _ (q : ℕ) (out t : List ℕ) where
+  pub put-fits : length t ≤ length out → put q out t ≡ record { answer = Answer.given (length t); after = t ++ drop (length t) out }
+  unfolding put
+  put-fits h = rw (le-leb (length t) (length out) h)
+
+  pub put-short : length out < length t → put q out t ≡ record { answer = Answer.refused (Refusal.plain q); after = out }
+  unfolding put
+  put-short h = rw (lt-leb (length t) (length out) h)

@@ -8,6 +8,7 @@ pub mod Accepted
 pub mod Sets
 pub mod Members
 pub mod Runs
+pub mod Texts
 pub mod Printed
 pub mod Valid
 pub mod Words

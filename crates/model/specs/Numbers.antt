@@ -93,6 +93,10 @@ impossible = 26
 abbrev pub pace : ℕ
 pace = 27
 
+-- lent output that is shorter than the listing (28)
+abbrev pub listing : ℕ
+listing = 28
+
 -- the rules (1 to 10), in the order of document 01
 abbrev pub stmt : ℕ
 stmt = 1

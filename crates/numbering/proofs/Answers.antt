@@ -1,16 +1,15 @@
 -- What tidy answers: the check's own refusal, or what comes of putting the tidy table into the output.
-use Prim.Native.Nat.{ℕ, _≤_, _<_}
+use Prim.Native.Nat.{ℕ}
 use mathlib.Core.Path.{_≡_, refl, sym, _∙_}
-use mathlib.Core.List.{List, _++_}
-use lib.ListN.{length, drop}
+use mathlib.Core.List.{List}
 use Rattle.model.specs.Numbers as No
-use Rattle.model.specs.Answers.{Refusal, Answer}
+use Rattle.model.specs.Answers.{Refusal, Answer, put}
 use Rattle.model.specs.Syntax.{Program}
 use Rattle.model.specs.Write as Write
 use Rattle.model.specs.Calls.{read, check}
-use Rattle.model.proofs.Facts.{given-injective, le-leb, lt-leb}
+use Rattle.model.proofs.Facts.{given-injective}
 use Rattle.model.proofs.Accepted.{accepts, refuses}
-use Rattle.numbering.specs.Tidy.{tidied, put, putting, tidy}
+use Rattle.numbering.specs.Tidy.{tidied, putting, tidy}
 
 -- an accepted table
 pub tidy-accepted : (s out : List ℕ) (P : Program) → check s ≡ Answer.given tt → read s ≡ Answer.given P →
@@ -26,13 +25,3 @@ pub tidy-refused : (s out : List ℕ) (q : Refusal) → check s ≡ Answer.refus
     tidy s out ≡ record { answer = Answer.refused q; after = out }
 unfolding tidy putting
 tidy-refused s out q h = rw (refuses s q h) refl
-
--- bytes that fit, and bytes that do not
-module _ (q : ℕ) (out t : List ℕ) where
-  pub put-fits : length t ≤ length out → put q out t ≡ record { answer = Answer.given (length t); after = t ++ drop (length t) out }
-  unfolding put
-  put-fits h = rw (le-leb (length t) (length out) h)
-
-  pub put-short : length out < length t → put q out t ≡ record { answer = Answer.refused (Refusal.plain q); after = out }
-  unfolding put
-  put-short h = rw (lt-leb (length t) (length out) h)

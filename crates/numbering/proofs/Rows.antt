@@ -4,7 +4,7 @@ use mathlib.Core.Path.{_≡_, refl}
 use mathlib.Core.List.{List, [], _∷_, _++_, map}
 use lib.ListN.{length, replicate}
 use Rattle.model.specs.Numbers as No
-use Rattle.model.specs.Answers.{Refusal, Answer}
+use Rattle.model.specs.Answers.{Refusal, Answer, Wrote, put}
 use Rattle.model.specs.Lists.{concat}
 use Rattle.model.specs.Syntax.{targets, sporkedBy, calledBy}
 use Rattle.model.specs.Write as Write
@@ -13,7 +13,7 @@ use Rattle.model.proofs.Runs.{all}
 use Rattle.numbering.specs.Renamed as Renamed
 use Rattle.numbering.specs.Mentions as Mentions
 use Rattle.numbering.specs.Tidy as Tidy
-use Rattle.numbering.specs.Tidy.{Wrote, tidy}
+use Rattle.numbering.specs.Tidy.{tidy}
 
 -- a block without parameters and scope, with the one statement 0 ← k to know it by: its nesting and its transfer
 abbrev block : ℕ → List ℕ → List ℕ → List ℕ
@@ -158,5 +158,5 @@ unfolding all
     Write.transfer Write.head Write.blockBy Write.spawnCall Write.functionBy Write.programBy Write.table Renamed.transfer Renamed.head
     Renamed.block Renamed.spawnCall Mentions.of Mentions.targetsOf Mentions.spawnsOf Mentions.spawned Mentions.functionsOf Tidy.member
     Tidy.mention Tidy.mentions Tidy.onward Tidy.grown Tidy.keptBlocks Tidy.keptSpawns Tidy.mentionedIn Tidy.keptFunctions Tidy.place
-    Tidy.before Tidy.picked Tidy.namesIn Tidy.tidyFunction Tidy.tidied Tidy.put Tidy.putting tidy
+    Tidy.before Tidy.picked Tidy.namesIn Tidy.tidyFunction Tidy.tidied put Tidy.putting tidy
 right = refl

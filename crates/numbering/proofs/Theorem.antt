@@ -3,7 +3,7 @@ use Prim.Native.Nat.{ℕ}
 use mathlib.Core.Path.{_≡_, sym, _∙_, ap, subst}
 use mathlib.Core.List.{List}
 use Rattle.model.specs.Numbers as No
-use Rattle.model.specs.Answers.{Answer}
+use Rattle.model.specs.Answers.{Answer, put}
 use Rattle.model.specs.Syntax.{Program}
 use Rattle.model.specs.WellFormed.{WF-prog}
 use Rattle.model.specs.Limits.{Limits}
@@ -14,7 +14,7 @@ use Rattle.model.proofs.Guarantees.{read-limits}
 use Rattle.model.proofs.Accepted.{check-wf, accepts}
 use Rattle.model.proofs.Writing.{inverse}
 use Rattle.numbering.specs.Mentions.{Closed}
-use Rattle.numbering.specs.Tidy.{tidied, put, tidy}
+use Rattle.numbering.specs.Tidy.{tidied, tidy}
 use Rattle.numbering.specs.Renumbers.{Numbering, Renumbers, Apart}
 use Rattle.numbering.specs.Means.{Renumbered, Tidies, Means, Numberings}
 use Rattle.numbering.proofs.Answers.{tidy-accepted, tidy-refused}

@@ -6,7 +6,7 @@ use mathlib.Core.List.{List, map}
 use lib.IntN.{ℤ}
 use lib.ListN.{length}
 use Rattle.model.specs.Numbers as No
-use Rattle.model.specs.Answers.{Refusal, Answer}
+use Rattle.model.specs.Answers.{Refusal, Answer, put}
 use Rattle.model.specs.Syntax.{Program}
 use Rattle.model.specs.Pool.{poolWords}
 use Rattle.model.specs.Calls as Calls
@@ -14,7 +14,7 @@ use Rattle.model.specs.Calls.{Choice, Lent, lent, read, check}
 use Rattle.tokens.specs.Beats as Beats
 use Rattle.safety.specs.NeverJams.{Call, Put, choices, finally}
 use Rattle.numbering.specs.Renumbers.{Numbering, renamedPool, Renumbers, Apart, Onto}
-use Rattle.numbering.specs.Tidy.{put, tidy}
+use Rattle.numbering.specs.Tidy.{tidy}
 use Rattle.numbering.specs.Order.{Unique, Ordered}
 
 -- whatever is put next, to s with the words ws and to t with the words ws′, is answered the same: a choice its rule or refusal, a

@@ -4,10 +4,10 @@ use mathlib.Core.Path.{_≡_}
 use mathlib.Core.Bool.{Bool, false, _||_, cond}
 use mathlib.Core.Option.{Option, none, some}
 use mathlib.Core.List.{List, [], _∷_, _++_, map}
-use lib.Dec.{eqb, leb}
-use lib.ListN.{length, getElem?, drop}
+use lib.Dec.{eqb}
+use lib.ListN.{getElem?}
 use Rattle.model.specs.Numbers as No
-use Rattle.model.specs.Answers.{Refusal, Answer}
+use Rattle.model.specs.Answers.{Answer, Wrote, put}
 use Rattle.model.specs.Lists.{concat}
 use Rattle.model.specs.Syntax.{Function, Program}
 use Rattle.model.specs.Write as Write
@@ -86,18 +86,7 @@ tidyFunction fs F =
 unfoldable pub tidied : Program → Program
 tidied P = map (tidyFunction (keptFunctions P)) (picked P (keptFunctions P))
 
--- an answer, and the lent bytes afterwards
-pub record Wrote : Type 0 where
-  pub answer : Answer ℕ
-  pub after : List ℕ
-
--- bytes put into lent ones: their number, and what is behind them stays. Where they do not fit, nothing is written
-unfoldable pub put : ℕ → List ℕ → List ℕ → Wrote
-put refusal out bytes =
-    cond (leb (length bytes) (length out))
-    (record { answer = Answer.given (length bytes); after = bytes ++ drop (length bytes) out })
-    (record { answer = Answer.refused (Refusal.plain refusal); after = out })
-
+-- the tidy table, put into the output
 unfoldable pub putting : List ℕ → Answer Program → Wrote
 putting out (Answer.given P) = put No.room out (Write.table (tidied P))
 putting out (Answer.refused r) = record { answer = Answer.refused r; after = out }

@@ -4,7 +4,7 @@ use native.Mathlib.Omega.{arith}
 use native.Mathlib.Nat.{pow-suc, pow-le-pow-right}
 use mathlib.Core.Path.{_≡_, refl, ap}
 use mathlib.Core.Bool.{Bool, true, false}
-use mathlib.Core.List.{_++_}
+use mathlib.Core.List.{[], _∷_, _++_}
 use lib.Dec.{leb}
 use lib.IntN.{ℤ, pos, negsuc}
 use mir.Syntax.{w32}
@@ -57,6 +57,11 @@ short n r h f = go (leb r 20) refl
 pub tied : (n r : ℕ) → n < 2 ^ 64 → Fewest 10 1 n r → digits 10 r n ≡ decimal n
 unfolding decimal
 tied n r h f = fewest 20 r n (short n r h f) f
+
+-- a number below 10 is its digit
+pub single : (n : ℕ) → n < 10 → digit n ∷ [] ≡ decimal n
+unfolding decimal decimalIn
+single n h = rw (lt-ltb n 10 h)
 
 -- the bits of a number that is not negative are the number itself; those of a negative one are as far below 2 ^ 32 as it is below 0
 pub positive : (x : ℤ) (b : ℕ) → SFits w32 x → b ≡ ofZ w32 x → b < 2 ^ 31 → part b ≡ signedPart x

@@ -7,6 +7,9 @@ ghost use Rattle.puts.specs.Puts.{Puts};
 pub fn decimal(out: &mut [u8], at: usize, n: u64) -> usize
     ensures { λ r. ⌜ Puts (now (out .entry)) at (decimal n) r (now (out .exit)) ⌝ }
 {
+    if n < 10 {
+        return puts::byte(out, at, b'0' + (n as u8));
+    }
     let mut digits = [0u8; 20];
     let k = io::decimal(n, &mut digits);
     puts::bytes(out, at, &digits[..k])

@@ -7,11 +7,11 @@ use native.Mathlib.Omega.{arith}
 use lib.Dec.{leb}
 use lib.ListN.{length}
 use Rattle.model.specs.Numbers as No
-use Rattle.model.specs.Answers.{Answer}
+use Rattle.model.specs.Answers.{Answer, Wrote, put}
 use Rattle.model.specs.Calls.{read, check}
 use Rattle.model.specs.Syntax.{Program}
 use Rattle.model.specs.Write as Write
-use Rattle.model.proofs.Facts.{le-leb, leb-true, leb-false}
+use Rattle.model.proofs.Facts.{le-leb, leb-true, leb-false, put-fits, put-short}
 use Rattle.model.proofs.Guarantees as Guarantees
 use Rattle.model.proofs.Guarantees.{sized-is}
 use Rattle.model.proofs.Accepted.{check-wf}
@@ -20,7 +20,7 @@ use Rattle.answers.specs.declared.Answer as Code
 use Rattle.answers.specs.declared.Answer.the-variants.{Given, Refused}
 use Rattle.answers.specs.declared.Refusal as Why
 use Rattle.answers.specs.declared.Refusal.the-variants.{Plain}
-use Rattle.answers.specs.Answers.{answerOf}
+use Rattle.answers.specs.Answers.{answerOf, Writes}
 use Rattle.puts.specs.Puts.{Puts}
 use Rattle.puts.proofs.Tables.{table-written}
 use Rattle.places.specs.Marks.{nowhere}
@@ -32,12 +32,11 @@ use Rattle.verifier.specs.Means.{CheckedAs}
 use Rattle.numbering.specs.Mentions.{Closed}
 use Rattle.numbering.specs.Tidy as Model
 use Rattle.numbering.specs.Tidy.{keptFunctions, tidied}
-use Rattle.numbering.proofs.Answers.{tidy-accepted, tidy-refused, put-fits, put-short}
+use Rattle.numbering.proofs.Answers.{tidy-accepted, tidy-refused}
 use Rattle.numbering.proofs.Closed.{closed}
 use Rattle.numbering.proofs.Shorter.{tidied-shorter}
 use Rattle.kept.specs.Kept.{nothing, Lists, KeepsFunctions}
 use Rattle.answers.specs.declared.Written.the-variants as written
-use Rattle.tidy.specs.Writes.{Writes}
 use Rattle.tidy.specs.Tables.{PutsProgram, Fits, PutsTable}
 
 -- the tidy table is no longer than the table, which is short
@@ -87,7 +86,7 @@ module _ (s before places : List ℕ) (r : Code.Answer) (c : CheckedAs s before 
   pub tidy-not : (why : Why.Refusal) → r ≡ Refused why → Writes (Model.tidy s out) (written.Refused why) out
   tidy-not why e =
       let q = tidy-refused s out _ (sym (c .answer none) ∙ ap answerOf e) in
-      record { answer = ap (λ (w : Model.Wrote). w .answer) (sym q); after = ap (λ (w : Model.Wrote). w .after) (sym q) }
+      record { answer = ap (λ (w : Wrote). w .answer) (sym q); after = ap (λ (w : Wrote). w .after) (sym q) }
 
   module _ {n : ℕ} {blank transfers empty functions : List ℕ} (e : r ≡ Given) (z : blank ≡ Transfers.nowhere)
       (f : Finds s places blank transfers) (d : empty ≡ nothing) (k : KeepsFunctions s places transfers empty n functions) where
@@ -104,7 +103,7 @@ module _ (s before places : List ℕ) (r : Code.Answer) (c : CheckedAs s before 
     abbrev table : List ℕ
     table = Write.table (tidied (kept .program))
 
-    is-put : Model.tidy s out ≡ Model.put No.room out table
+    is-put : Model.tidy s out ≡ put No.room out table
     is-put = tidy-accepted s out (kept .program) (kept .accepted) (kept .reads)
 
     fits-is : {b : Bool} → Fits s places transfers functions n (length out) b → b ≡ leb (length table) (length out)

@@ -7,15 +7,12 @@ use Rattle.model.specs.Syntax.{Transfer, Block}
 use Rattle.model.specs.Read as Read
 use Rattle.model.specs.Read.{Parsed}
 use Rattle.model.specs.Write as Write
-use Rattle.answers.specs.Answers.{writtenOf}
 use Rattle.code.specs.Bytes.{byteAt, past}
 use Rattle.code.specs.Code.{listEnd, expressionEnd, spawnEnd}
 use Rattle.puts.specs.Puts.{Puts, stretch}
 use Rattle.numbering.specs.Renamed as Renamed
 use Rattle.numbering.specs.Renamed.{Names}
-use Rattle.numbering.specs.Tidy.{Wrote}
 use Rattle.kept.specs.Kept.{numberIn}
-use Rattle.answers.specs.declared.Written.{Written}
 
 -- the new numbers that three lists have
 abbrev pub namesBy : List ℕ → List ℕ → List ℕ → Names
@@ -58,8 +55,3 @@ abbrev pub PutsBlock : List ℕ → ℕ → Names → List ℕ → ℕ → ℕ �
 PutsBlock s at N out k r out′ =
     (B : Block) (e : ℕ) → Read.block s at ≡ Parsed.ok B e → length s < 2 ^ 64 →
     Puts out k (Write.block (Renamed.block N B)) r out′
-
--- an answer, and the output afterwards
-pub record Writes (w : Wrote) (r : Written) (out′ : List ℕ) : Type 0 where
-  pub answer : writtenOf r ≡ w .answer
-  pub after : out′ ≡ w .after

@@ -9,12 +9,13 @@ use places::Place;
 use places::Places;
 use transfers::Transfers;
 ghost use mathlib.Core.List.{map};
+ghost use Rattle.answers.specs.Answers.{Writes};
 ghost use Rattle.code.specs.Code.{run};
 ghost use Rattle.puts.specs.Puts.{Puts};
 ghost use Rattle.numbering.specs.Tidy as Model;
 ghost use Rattle.kept.specs.Kept.{numberIn};
 ghost use Rattle.tidy.specs.Writes.{renamedName, renamedTwo, renamedApplied, renamedIf, renamedCall};
-ghost use Rattle.tidy.specs.Writes.{namesBy, PutsTransfer, PutsBlock, Writes};
+ghost use Rattle.tidy.specs.Writes.{namesBy, PutsTransfer, PutsBlock};
 ghost use Rattle.tidy.specs.Tables.{PutsIn, PutsEach, countsOf, spawnOf, eachSpawn, blockOf, eachBlock, PutsFunction, PutsProgram};
 ghost use Rattle.tidy.specs.Tables.{Fits, PutsTable};
 

@@ -3,6 +3,7 @@
 use fast::Pace;
 use mezdaulk::Choice;
 use oracle::encode::encode;
+use oracle::gen::pools::loose;
 use oracle::gen::programs::pad;
 use oracle::pool::Pool;
 use oracle::rng::Rng;
@@ -90,6 +91,14 @@ impl Looping {
             pools.push(pool.to_words());
         }
         pools.into_iter().step_by(10).collect()
+    }
+
+    /// Any pools of so many threads.
+    pub fn pools_of(&self, threads: usize) -> Vec<Vec<i32>> {
+        let mut rng = Rng::new(SEED);
+        let pools = std::iter::repeat_with(|| loose(&mut rng, &self.program));
+        let fitting = pools.filter(|pool| pool.size() == threads);
+        fitting.take(POOLS).map(|pool| pool.to_words()).collect()
     }
 
     pub fn fast_choices(&self) -> Vec<fast::Choice> {

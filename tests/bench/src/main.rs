@@ -11,6 +11,7 @@ use clock::{duel, show, Duel};
 use fast::POOL_WORDS;
 use looping::{Beats, Looping};
 use mezdaulk::{lent, Ran, OUTPUT_BYTES, SCRATCH_WORDS};
+use oracle::listing::LISTING_BYTES;
 use oracle::table::{BRIEF_MAX, TABLE_MAX};
 use std::hint::black_box;
 use tables::Calls;
@@ -67,6 +68,14 @@ fn main() {
     }
     for run in &runs {
         row("values", &run.name(), None, values(run), 1);
+    }
+    for (call, lists) in [("operator", OPERATOR), ("customer", CUSTOMER)] {
+        for (threads, what) in [(1, "1 thread"), (8, "8 threads")] {
+            for run in &runs {
+                let call = format!("{call}, {what}");
+                row(&call, &run.name(), None, listing(run, threads, lists), 1);
+            }
+        }
     }
     let schedules: Vec<Duel> = runs
         .iter()
@@ -298,6 +307,39 @@ fn values(run: &Looping) -> Duel {
             for pool in &pools {
                 let open = fast::values(&run.table, black_box(pool), &mut other);
                 assert_eq!(open, Ok(None));
+            }
+        },
+    )
+    .divided(pools.len())
+}
+
+/// The calls that list a pool: the library's and the fast one's.
+type Lists = (
+    fn(&[u8], &[i32], &mut [u8]) -> Result<usize, mezdaulk::Refusal>,
+    fn(&[u8], &[i32], &mut [u8]) -> Result<usize, fast::Refusal>,
+);
+const OPERATOR: Lists = (lent::operator, fast::operator);
+const CUSTOMER: Lists = (lent::customer, fast::customer);
+
+/// Any pools of so many threads, listed into an output with room for every
+/// listing, which both sides have of their own.
+fn listing(run: &Looping, threads: usize, (library, fast): Lists) -> Duel {
+    let pools = run.pools_of(threads);
+    let (mut left, mut right) = ([0; LISTING_BYTES], [0; LISTING_BYTES]);
+    for pool in &pools {
+        let written = library(&run.table, pool, &mut left).ok();
+        assert_eq!(written, fast(&run.table, pool, &mut right).ok());
+        assert_eq!(left, right);
+    }
+    duel(
+        || {
+            for pool in &pools {
+                assert!(library(&run.table, black_box(pool), black_box(&mut left)).is_ok());
+            }
+        },
+        || {
+            for pool in &pools {
+                assert!(fast(&run.table, black_box(pool), black_box(&mut right)).is_ok());
             }
         },
     )

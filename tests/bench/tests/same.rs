@@ -4,13 +4,17 @@ use fast::Fast;
 use oracle::encode::encode;
 use oracle::full;
 use oracle::gen::beats::{guided_run, quick_pace};
-use oracle::gen::{brief, calls, faults, loops, programs, scenario, twins};
-use oracle::machine::{complete_differs, differences, tables_differ, Machine, Oracle};
+use oracle::gen::{brief, calls, faults, loops, pools, programs, scenario, twins};
+use oracle::longest;
+use oracle::machine::{
+    complete_differs, differences, listings_differ, tables_differ, Machine, Oracle,
+};
 use oracle::pool::Pool;
 use oracle::rng::Rng;
 use oracle::rules::{steppable, STEP};
 use oracle::stored::{brief_rows, frame_starts, tidy_rows};
-use oracle::{which, POOL_WORDS};
+use oracle::{watch, which, POOL_WORDS};
+use std::collections::BTreeSet;
 
 #[test]
 fn same_answers() {
@@ -148,6 +152,33 @@ fn same_first_threads() {
         several > 10_000,
         "{several} pools in which several can step"
     );
+}
+
+/// Of pools of every kind, and of the one with the longest listings, both
+/// listings, in outputs around their lengths; and everything that they can show
+/// occurs.
+#[test]
+fn same_listings() {
+    let (table, words) = (encode(&longest::program()), longest::pool().to_words());
+    let found = listings_differ(&Fast, &table, &words);
+    assert!(found.is_empty(), "{found:?}");
+    let mut seen: BTreeSet<&str> = watch::listed(&longest::pool()).into_iter().collect();
+    for round in 0..4_000 {
+        let rng = &mut Rng::of_round(14, round);
+        let program = match round % 2 {
+            0 => programs::accepted(rng),
+            _ => programs::loose(rng),
+        };
+        let mut pool = match round % 3 {
+            0 => pools::reached(rng, &program, 40),
+            _ => pools::loose(rng, &program),
+        };
+        pools::fill_purses(rng, &mut pool);
+        let found = listings_differ(&Fast, &encode(&program), &pool.to_words());
+        assert!(found.is_empty(), "round {round}: {found:?}");
+        seen.extend(watch::listed(&pool));
+    }
+    assert_eq!(seen, watch::LISTED.into());
 }
 
 /// A full pool, whose frames stand at the stored starts.

@@ -1,6 +1,7 @@
 //! What `crates/host/specs/Laws.antt` states and `include/mezdaulk.h` says of
 //! the number that a call answered and of the memory lent to it.
 
+use crate::lines::{depths, depths_in, erased, numbers_in, told};
 use crate::purses::{after_beat, after_choice, masked, purses};
 use mezdaulk::{Choice, Pace};
 use oracle::tally::Tally;
@@ -18,6 +19,7 @@ const LENT: u8 = 24;
 const UNREACHED: u8 = 25;
 const IMPOSSIBLE: u8 = 26;
 const PACE: u8 = 27;
+const LISTING: u8 = 28;
 
 fn is_given(number: u64) -> bool {
     number >> 32 & 1 == 1
@@ -73,7 +75,7 @@ pub fn answer_in(number: u64) -> Result<u32, Refusal> {
 }
 
 /// A call, the values that it can give and the numbers it can refuse with, as
-/// ranges. Every value must occur, but of a range of more than 256 some one.
+/// ranges. Every value must occur, but of a range of more than 128 some one.
 pub struct Call {
     name: &'static str,
     values: &'static [(u32, u32)],
@@ -89,6 +91,8 @@ const START: Call = call("start", &[(0, 0)], &[(1, 3), (12, 12)]);
 const CHOOSE: Call = call("choose", &[(1, 10)], &[(1, 3), (12, 21)]);
 pub const WHICH: Call = call("which", &[(0, 8)], &[(1, 3), (12, 13)]);
 const VALUES: Call = call("values", &[(0, 4), (OPEN, OPEN)], &[(1, 3), (12, 13)]);
+pub const OPERATOR: Call = call("operator", &[OPERATOR_LENGTHS], &LISTING_NUMBERS);
+pub const CUSTOMER: Call = call("customer", &[CUSTOMER_LENGTHS], &LISTING_NUMBERS);
 const SCHEDULE: Call = call("schedule", &[(0, 0)], &[(1, 3), (12, 21)]);
 const BEAT: Call = call("beat", &BEATS, &BEAT_NUMBERS);
 const RUN: Call = call("run", &[(0, 0)], &BEAT_NUMBERS);
@@ -106,6 +110,12 @@ const BEATS: [(u32, u32); 8] = [
     (0x701, 0x708),
 ];
 const BEAT_NUMBERS: [(u8, u8); 4] = [(1, 3), (12, 13), (15, 19), (PACE, PACE)];
+
+/// The lengths of listings: the line of a fresh pool, up to eight lines of 24
+/// bytes, or of 254 with all values.
+const OPERATOR_LENGTHS: (u32, u32) = (14, 8 * 24);
+const CUSTOMER_LENGTHS: (u32, u32) = (14, 8 * 254);
+const LISTING_NUMBERS: [(u8, u8); 3] = [(1, 3), (12, 13), (LISTING, LISTING)];
 
 /// The lengths of accepted tables: a function of one block that returns, up to
 /// the largest.
@@ -133,7 +143,7 @@ impl Call {
 
     /// The name of an answer's event.
     fn event(&self, answer: Result<u32, u8>) -> String {
-        let wide = |&&(from, to): &&(u32, u32)| to - from > 255;
+        let wide = |&&(from, to): &&(u32, u32)| to - from > 127;
         match answer {
             Ok(value) => match self.values.iter().find(wide) {
                 Some((from, to)) => format!("{} gives {from} to {to}", self.name),
@@ -215,12 +225,21 @@ const ALL_RUN: &str = "law: a given run made a step of each thread";
 const NONE_RUN: &str = "law: a run refused below 15 or with 27 made and wrote nothing";
 const RUN_STOPPED: &str = "law: the beat that stopped a run gets the same number";
 const FEW_MADE: &str = "law: a run made at most 7 promotions a step";
+const LISTED: &str = "law: a listing within the output, its length the value";
+const PAST_LISTING: &str = "law: the output past the listing stays";
+const NO_LISTING: &str = "law: a refused listing leaves the output";
+const SHORT: &str = "law: 28 exactly where the output is shorter than the listing";
+const ROOMY: &str = "law: 4,096 bytes have room for every listing";
+const UNLISTED: &str = "law: a listing refused below 28 in every output, by both calls";
+const LINES: &str = "law: a line tells the words of its thread and of its newest frame";
+const DEPTHS: &str = "law: a line one space deeper than its parent's";
+const ERASED: &str = "law: the operator's lines are the customer's without the values";
 const ONLY_READ: &str = "law: what is only read stays";
 const AROUND: &str = "law: memory around what is lent stays";
 const WRAPPED: &str = "law: the wrapper answers and writes the same";
 const OWNED: &str = "law: the wrapper's own pool answers and writes the same";
 
-const LAWS: [&str; 51] = [
+const LAWS: [&str; 60] = [
     UNUSED,
     PLACED,
     AT_BLOCK,
@@ -268,6 +287,15 @@ const LAWS: [&str; 51] = [
     NONE_RUN,
     RUN_STOPPED,
     FEW_MADE,
+    LISTED,
+    PAST_LISTING,
+    NO_LISTING,
+    SHORT,
+    ROOMY,
+    UNLISTED,
+    LINES,
+    DEPTHS,
+    ERASED,
     ONLY_READ,
     AROUND,
     WRAPPED,
@@ -277,7 +305,8 @@ const LAWS: [&str; 51] = [
 /// What must occur: every law, and every answer of every call.
 pub fn events() -> Vec<String> {
     let calls = [
-        READ, CHECK, DEPTH, TIDY, COMPLETE, START, CHOOSE, WHICH, VALUES, SCHEDULE, BEAT, RUN,
+        READ, CHECK, DEPTH, TIDY, COMPLETE, START, CHOOSE, WHICH, VALUES, OPERATOR, CUSTOMER,
+        SCHEDULE, BEAT, RUN,
     ];
     LAWS.iter()
         .map(|law| law.to_string())
@@ -298,6 +327,24 @@ pub struct Beaten<'a> {
     pub promoted: bool,
     pub chosen: Vec<i32>,
     pub next: u64,
+}
+
+/// What a call left that was lent room for every listing.
+pub struct Whole {
+    pub number: u64,
+    pub left: Vec<u8>,
+}
+
+impl Whole {
+    /// The bytes of the listing; none where it was refused.
+    pub fn listing(&self) -> &[u8] {
+        let length = if is_given(self.number) {
+            value(self.number) as usize
+        } else {
+            0
+        };
+        &self.left[..length.min(self.left.len())]
+    }
 }
 
 /// What was asserted since it was last counted.
@@ -558,6 +605,51 @@ impl Laws {
             let count = (value(number) as usize).min(room.len());
             self.assert(BEHIND, number, left[count..] == room[count..]);
         }
+    }
+
+    /// The number of a listing, the output before and afterwards, and what the
+    /// same call left in an output with room for every listing.
+    pub fn listing(
+        &mut self,
+        call: &'static Call,
+        table: &[u8],
+        number: u64,
+        (out, left): (&[u8], &[u8]),
+        whole: &Whole,
+    ) {
+        self.answer(call, table, number);
+        let short = is_given(whole.number) && out.len() < whole.listing().len();
+        let told = !is_given(number) && refused(number) == LISTING;
+        self.assert(SHORT, number, short == told);
+        if !is_given(number) {
+            self.assert(NO_LISTING, number, left == out);
+            return;
+        }
+        let length = value(number) as usize;
+        let end = length.min(left.len());
+        let same = number == whole.number && left[..end] == *whole.listing();
+        self.assert(LISTED, number, length == end && same);
+        self.assert(PAST_LISTING, number, left[end..] == out[end..]);
+    }
+
+    /// Both listings of words, in outputs with room for every listing.
+    pub fn listings(&mut self, words: &[i32], operator: &Whole, customer: &Whole) {
+        for whole in [operator, customer] {
+            let room = is_given(whole.number) || refused(whole.number) != LISTING;
+            self.assert(ROOMY, whole.number, room);
+        }
+        if !is_given(operator.number) || !is_given(customer.number) {
+            let same = operator.number == customer.number;
+            self.assert(UNLISTED, operator.number, same);
+            return;
+        }
+        let (bytes, number) = (customer.listing(), customer.number);
+        let told = told(words);
+        self.assert(LINES, number, told.is_some() && told == numbers_in(bytes));
+        let deep = told.is_some() && depths(words) == depths_in(bytes);
+        self.assert(DEPTHS, number, deep);
+        let erased = erased(bytes);
+        self.assert(ERASED, operator.number, erased == operator.listing());
     }
 
     /// How many choices were made, of how many; and the number that the

@@ -3,14 +3,16 @@
 //! the memory lent, and where that is as long as a pool on a pool of its own.
 
 use crate::laws::{
-    answer_in, beat_in, run_stops, stops, Beaten, Call, Laws, CHECK, DEPTH, READ, WHICH,
+    answer_in, beat_in, run_stops, stops, Beaten, Call, Laws, Whole, CHECK, CUSTOMER, DEPTH,
+    OPERATOR, READ, WHICH,
 };
 use crate::lent::Lent;
 use mezdaulk::{lent, raw, Choice, Pace, Place, Pool, Refusal as Wrapped};
 use oracle::gen::schedules::Choice as Pair;
-use oracle::machine::Machine;
+use oracle::listing::LISTING_BYTES;
+use oracle::machine::{unwritten, Machine};
 use oracle::tally::Tally;
-use oracle::{Pace as Wide, Refusal};
+use oracle::{Pace as Wide, Reader, Refusal};
 use std::cell::{RefCell, RefMut};
 
 /// The library, and what was asserted of its answers since they were last
@@ -59,6 +61,12 @@ impl Library {
             self.choose(table, &mut pool, 0, 0).map_err(number).err(),
             self.can_step(table, &pool).map_err(number).err(),
             self.values(table, &pool, &mut room).map_err(number).err(),
+            self.list(Reader::Operator, table, &pool, &mut [])
+                .map_err(number)
+                .err(),
+            self.list(Reader::Customer, table, &pool, &mut [])
+                .map_err(number)
+                .err(),
             self.schedule(table, &mut pool, &[], &mut made)
                 .map_err(number)
                 .err(),
@@ -200,6 +208,24 @@ fn plain_choices<'a>(
         chosen,
         next,
     }
+}
+
+/// The exported function that lists for a reader.
+fn exported(
+    reader: Reader,
+) -> unsafe extern "C" fn(*const u8, usize, *const i32, usize, *mut u8, usize) -> u64 {
+    match reader {
+        Reader::Operator => raw::mezdaulk_operator,
+        Reader::Customer => raw::mezdaulk_customer,
+    }
+}
+
+/// A listing in an output with room for every listing.
+fn whole(reader: Reader, table: &[u8], words: &[i32]) -> Whole {
+    let mut left = unwritten(LISTING_BYTES);
+    let (t, w, l) = (table.as_ptr(), words.as_ptr(), left.as_mut_ptr());
+    let number = unsafe { exported(reader)(t, table.len(), w, words.len(), l, left.len()) };
+    Whole { number, left }
 }
 
 /// The wrapper's refusal as the second implementation writes it.
@@ -382,6 +408,47 @@ impl Machine for Library {
         let wrapped = lent::values(table, pool, room).map(count_number);
         let answer = self.answer(number, wrapped, room == values.left());
         answer.map(|count| (count != 255).then_some(count as usize))
+    }
+
+    fn list(
+        &self,
+        reader: Reader,
+        table: &[u8],
+        pool: &[i32],
+        out: &mut [u8],
+    ) -> Result<usize, Refusal> {
+        let (mut bytes, mut words) = (Lent::new(table, BYTE), Lent::new(pool, WORD));
+        let mut room = Lent::new(out, BYTE);
+        let (t, p, o) = (bytes.pointer(), words.pointer(), room.pointer());
+        let number = unsafe { exported(reader)(t, table.len(), p, pool.len(), o, out.len()) };
+        let [operator, customer] = Reader::ALL.map(|reader| whole(reader, table, pool));
+        let (call, whole) = match reader {
+            Reader::Operator => (&OPERATOR, &operator),
+            Reader::Customer => (&CUSTOMER, &customer),
+        };
+        self.laws()
+            .listing(call, table, number, (out, room.left()), whole);
+        self.laws().listings(pool, &operator, &customer);
+        let only_read = bytes.left() == table && words.left() == pool;
+        let around = bytes.guarded() && words.guarded() && room.guarded();
+        self.laws().memory(number, only_read, around);
+        self.owned(whole.number, pool, pool, |own| {
+            let given: Result<Vec<u8>, Wrapped> = match reader {
+                Reader::Operator => own.operator(table).map(Into::into),
+                Reader::Customer => own.customer(table).map(Into::into),
+            };
+            let same = given
+                .as_ref()
+                .map_or(true, |given| given == whole.listing());
+            (given.map(|given| given.len() as u32), same)
+        });
+        let wrapped = match reader {
+            Reader::Operator => lent::operator(table, pool, out),
+            Reader::Customer => lent::customer(table, pool, out),
+        };
+        let wrapped = wrapped.map(|length| length as u32);
+        let answer = self.answer(number, wrapped, out == room.left());
+        answer.map(|length| length as usize)
     }
 
     fn schedule(

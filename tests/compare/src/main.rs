@@ -4,7 +4,7 @@
 //! of the memory lent; and asserts demand 3 of the library, what depths say,
 //! that a child's arguments are those of its spork, and that tidy tables answer
 //! as their tables, on random runs of accepted tables. Of any table steps by the
-//! first are made. Tables of version 2 are completed, whose completions are known
+//! first are made, and pools with other values listed. Tables of version 2 are completed, whose completions are known
 //! where their making tells them. Stored tables are tidied and completed too, and
 //! a pool is filled to see where each frame begins.
 //!
@@ -15,6 +15,8 @@ mod first;
 mod laws;
 mod lent;
 mod library;
+mod lines;
+mod listings;
 mod purses;
 mod runs;
 mod sporks;
@@ -53,6 +55,7 @@ fn main() -> ExitCode {
     brief::check_stored(&mut tally, &library);
     starts::check_full(&mut tally, &library);
     tokens::check_rich(&mut tally, &library);
+    listings::check_longest(&mut tally, &library);
     for round in 0..count {
         tally.round = round;
         let mut rng = Rng::of_round(seed, round);
@@ -74,6 +77,7 @@ fn main() -> ExitCode {
         first::check_lent(&mut tally, &library, &mut rng, &lent);
         let one = [&program, &calling, &looped][round as usize % 3];
         first::check_started(&mut tally, &library, &mut rng, one);
+        listings::check_lent(&mut tally, &library, &mut rng, &lent);
         library.count(&mut tally);
     }
     tally.finish()
@@ -98,6 +102,8 @@ fn events() -> Vec<String> {
     events.extend(watch::FIRSTS.map(String::from));
     events.extend(watch::BY_FIRST.map(String::from));
     events.extend(first::EVENTS.map(String::from));
+    events.extend(watch::LISTED.map(String::from));
+    events.extend(listings::EVENTS.map(String::from));
     let others = [FULL_SIZE, PAIR, LONG, starts::EVENT];
     events.extend(laws::events());
     events.extend(sporks::events());

@@ -4,6 +4,7 @@
 //! second implementation chooses and makes the same run, and every answer is
 //! compared with its own. A beat counts as its step and then its promotions.
 
+use crate::listings::Listed;
 use crate::purses::{masked, purses};
 use crate::sporks::{Part, Put, Sporks};
 use oracle::beats::{beat_as, Pace};
@@ -114,6 +115,7 @@ pub fn check_run(tally: &mut Tally, machine: &dyn Machine, rng: &mut Rng, progra
             _ => run.one_by_one(tally, rng, length),
         }
         run.stands(tally);
+        run.listed(tally, rng);
     }
 }
 
@@ -190,6 +192,9 @@ impl Run<'_> {
             refused = answer.is_err();
             if rng.chance(4) {
                 self.stands(tally);
+            }
+            if rng.chance(1) {
+                self.listed(tally, rng);
             }
             if left == 0 && length >= 1_000 && answer.is_ok() {
                 tally.event(LONG);
@@ -462,6 +467,18 @@ impl Run<'_> {
                 tally.event(event);
             }
         }
+    }
+
+    /// Both listings of the words.
+    fn listed(&self, tally: &mut Tally, rng: &mut Rng) {
+        let listed = Listed {
+            machine: self.machine,
+            table: &self.table,
+            words: &self.words,
+            pool: &self.pool,
+        };
+        let returned = ended(self.program, &self.pool.root).is_some();
+        listed.check(tally, rng, returned);
     }
 
     /// Whether main has returned, with the second implementation's values and

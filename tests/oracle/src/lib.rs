@@ -14,6 +14,8 @@ pub mod first;
 pub mod full;
 pub mod gen;
 pub mod graph;
+pub mod listing;
+pub mod longest;
 pub mod machine;
 pub mod openers;
 pub mod pool;
@@ -31,6 +33,7 @@ pub use beats::Pace;
 pub use check::check;
 pub use complete::complete;
 pub use depth::depth;
+pub use listing::Reader;
 pub use pool::{Pool, POOL_WORDS};
 pub use refusal::{Place, Refusal};
 pub use rules::Rule;
@@ -65,6 +68,28 @@ pub fn which(table: &[u8], pool: &[i32]) -> Result<Option<usize>, Refusal> {
 pub fn values(table: &[u8], pool: &[i32]) -> Result<Option<Vec<i32>>, Refusal> {
     let (program, tree) = decode(table, pool)?;
     Ok(rules::ended(&program, &tree.root))
+}
+
+/// Writes the operator's listing and gives its length; refusals 1 to 3, 12, 13
+/// and 28.
+pub fn operator(table: &[u8], pool: &[i32], out: &mut [u8]) -> Result<usize, Refusal> {
+    list(table, pool, out, Reader::Operator)
+}
+
+/// Writes the customer's listing and gives its length; refusals 1 to 3, 12, 13
+/// and 28.
+pub fn customer(table: &[u8], pool: &[i32], out: &mut [u8]) -> Result<usize, Refusal> {
+    list(table, pool, out, Reader::Customer)
+}
+
+fn list(table: &[u8], pool: &[i32], out: &mut [u8], reader: Reader) -> Result<usize, Refusal> {
+    let (_, tree) = decode(table, pool)?;
+    let listing = listing::listing(&tree, reader);
+    let Some(front) = out.get_mut(..listing.len()) else {
+        return Err(Refusal::plain(listing::LISTING));
+    };
+    front.copy_from_slice(listing.as_bytes());
+    Ok(listing.len())
 }
 
 /// Makes choices up to the first refusal; gives how many were made and the

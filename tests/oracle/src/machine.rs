@@ -5,6 +5,8 @@ use crate::complete::{completed, LENT, OUTPUT, SCRATCH};
 use crate::encode::encode;
 use crate::gen::schedules::Choice;
 use crate::gen::Scenario;
+use crate::listing::{listing, Reader, LISTING, LISTING_BYTES};
+use crate::pool::Pool;
 use crate::refusal::Refusal;
 use crate::rng::Rng;
 use crate::rules::{PROMOTE, STEP};
@@ -35,6 +37,15 @@ pub trait Machine {
         pool: &[i32],
         room: &mut [i32; 4],
     ) -> Result<Option<usize>, Refusal>;
+    /// The length of the listing for a reader, which is written at the start of
+    /// `out`.
+    fn list(
+        &self,
+        reader: Reader,
+        table: &[u8],
+        pool: &[i32],
+        out: &mut [u8],
+    ) -> Result<usize, Refusal>;
     /// How many choices were made is written either way.
     fn schedule(
         &self,
@@ -128,6 +139,19 @@ impl Machine for Oracle {
         }))
     }
 
+    fn list(
+        &self,
+        reader: Reader,
+        table: &[u8],
+        pool: &[i32],
+        out: &mut [u8],
+    ) -> Result<usize, Refusal> {
+        match reader {
+            Reader::Operator => crate::operator(table, pool, out),
+            Reader::Customer => crate::customer(table, pool, out),
+        }
+    }
+
     fn schedule(
         &self,
         table: &[u8],
@@ -175,6 +199,7 @@ pub fn differences(machine: &dyn Machine, input: &Scenario) -> Vec<String> {
     }
     found.extend(start_differs(machine, input));
     found.extend(questions_differ(machine, &input.table, &input.words));
+    found.extend(listings_differ(machine, &input.table, &input.words));
     let choices = within(machine, &input.choices);
     for &choice in choices.iter().take(6).chain(&small_choices()) {
         found.extend(choice_differs(machine, input, choice));
@@ -347,6 +372,39 @@ fn questions_differ(machine: &dyn Machine, table: &[u8], words: &[i32]) -> Vec<S
         Oracle.can_step(table, words),
     );
     values.into_iter().chain(first).collect()
+}
+
+/// Both listings, in outputs that hold anything: of no byte, one less than the
+/// listing has, as many, one more, and enough for any; where the table or the
+/// words are refused, of no byte and of enough.
+pub fn listings_differ(machine: &dyn Machine, table: &[u8], words: &[i32]) -> Vec<String> {
+    let pool = crate::read(table).and_then(|program| Pool::from_words(&program, words));
+    let differ = |reader| {
+        let right = pool.as_ref().map(|pool| listing(pool, reader));
+        let rooms = match &right {
+            Ok(listing) => {
+                let length = listing.len();
+                vec![0, length - 1, length, length + 1, LISTING_BYTES]
+            }
+            Err(_) => vec![0, LISTING_BYTES],
+        };
+        rooms.into_iter().find_map(|room| {
+            let what = format!("{reader:?}'s listing into {room} bytes");
+            let (mut out, _) = hostile(table, room, 0);
+            let mut given = out.clone();
+            let answer = machine.list(reader, table, words, &mut given);
+            let due = match &right {
+                Err(refusal) => Err(**refusal),
+                Ok(listing) if room < listing.len() => Err(Refusal::plain(LISTING)),
+                Ok(listing) => {
+                    out[..listing.len()].copy_from_slice(listing.as_bytes());
+                    Ok(listing.len())
+                }
+            };
+            differs(&what, answer, due).or_else(|| items_differ(&what, &given, &out))
+        })
+    };
+    Reader::ALL.into_iter().filter_map(differ).collect()
 }
 
 /// Both kinds for every thread there may be, and what is no choice.

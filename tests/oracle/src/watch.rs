@@ -1,11 +1,11 @@
 //! What is worth counting: the shapes of programs, joins, what pools reach, what
-//! beats are like, and the first thread that can step.
+//! beats are like, the first thread that can step, and what listings show.
 
 use crate::beats::{Beat, Entry, Pace};
 use crate::depth;
 use crate::first::Run;
 use crate::graph::{cyclic, jumps, live, Graph};
-use crate::pool::{Pool, Thread, MAX_CALLS, MAX_FRAMES, MAX_THREADS};
+use crate::pool::{Frame, Pool, Thread, MAX_CALLS, MAX_FRAMES, MAX_THREADS, TEMPORARIES};
 use crate::rules::{ended, step, transfer, Rule};
 use crate::table::{
     Function, Name, Program, Transfer, BRIEF_MAX, MAX_BLOCKS, MAX_FUNCTIONS, MAX_NESTING,
@@ -402,4 +402,92 @@ pub fn by_first(run: &Run, accepted: bool) -> Vec<&'static str> {
     found
         .filter_map(|(event, held)| held.then_some(event))
         .collect()
+}
+
+/// What listings of a pool show, by name.
+pub const LISTED: [&str; 25] = [
+    "listing of one thread",
+    "listing of eight threads",
+    "listing with a line three deep",
+    "listing with a line seven deep",
+    "listing with two children of a thread",
+    "listing with four children of a thread",
+    "listing with a child's children before its older sibling",
+    "listing of children by older frames alone",
+    "listing of a thread with eight frames",
+    "listing of a function of two digits",
+    "listing of a block of two digits",
+    "listing of two digits of statements done",
+    "listing of open calls, none promoted",
+    "listing of open calls, some promoted",
+    "listing of open calls, all promoted",
+    "listing of four open calls",
+    "listing with nothing bound",
+    "listing with 16 bound",
+    "listing with temporaries of two digits alone",
+    "listing of the value 0",
+    "listing of a negative value",
+    "listing of the least value",
+    "listing of the greatest value",
+    "listing without values that older frames have bound",
+    "listing of a thread with work and tokens",
+];
+
+/// What the listings of a pool show.
+pub fn listed(pool: &Pool) -> Vec<&'static str> {
+    let threads = pool.threads();
+    let depth = height(&pool.root);
+    let some = |holds: &dyn Fn(&Thread) -> bool| threads.iter().any(|thread| holds(thread));
+    let newest = |holds: &dyn Fn(&Frame) -> bool| some(&|thread| holds(thread.current()));
+    let bound = |frame: &Frame| frame.temporaries.iter().flatten().count();
+    let low = |frame: &Frame| frame.temporaries[..10].iter().flatten().count();
+    let frames = threads.iter().map(|thread| thread.current());
+    let values: Vec<i32> = frames
+        .flat_map(|frame| frame.temporaries.into_iter().flatten())
+        .collect();
+    let younger = |thread: &Thread| match &thread.children[..] {
+        [_, younger @ ..] => younger.iter().any(|child| !child.children.is_empty()),
+        [] => false,
+    };
+    let hides = |thread: &Thread| {
+        let older = thread.frames.iter().rev().skip(1);
+        older.map(bound).any(|bound| bound > 0)
+    };
+    let holds = [
+        threads.len() == 1,
+        threads.len() == MAX_THREADS,
+        depth >= 3,
+        depth >= 7,
+        some(&|thread| thread.children.len() == 2),
+        some(&|thread| thread.children.len() >= 4),
+        some(&younger),
+        some(&|thread| !thread.children.is_empty() && thread.current().promoted == 0),
+        some(&|thread| thread.frames.len() == MAX_FRAMES),
+        newest(&|frame| frame.function >= 10),
+        newest(&|frame| frame.block >= 10),
+        newest(&|frame| frame.done >= 10),
+        newest(&|frame| frame.promoted == 0 && !frame.calls.is_empty()),
+        newest(&|frame| frame.promoted > 0 && frame.has_unpromoted()),
+        newest(&|frame| frame.promoted > 0 && !frame.has_unpromoted()),
+        newest(&|frame| frame.calls.len() == MAX_CALLS),
+        newest(&|frame| bound(frame) == 0),
+        newest(&|frame| bound(frame) == TEMPORARIES),
+        newest(&|frame| bound(frame) > 0 && low(frame) == 0),
+        values.contains(&0),
+        values.iter().any(|&value| value < 0),
+        values.contains(&i32::MIN),
+        values.contains(&i32::MAX),
+        some(&hides),
+        some(&|thread| thread.purse.work > 0 && thread.purse.tokens > 0),
+    ];
+    let found = LISTED.into_iter().zip(holds);
+    found
+        .filter_map(|(event, held)| held.then_some(event))
+        .collect()
+}
+
+/// How deep the children of a thread go.
+fn height(thread: &Thread) -> usize {
+    let below = thread.children.iter().map(|child| 1 + height(child));
+    below.max().unwrap_or(0)
 }

@@ -6,6 +6,7 @@ mod complete;
 mod depth;
 mod judge;
 mod layout;
+mod listing;
 mod machine;
 mod places;
 mod read;
@@ -17,6 +18,7 @@ pub use check::check;
 pub use complete::complete;
 pub use depth::depth;
 pub use layout::POOL_WORDS;
+pub use listing::{customer, operator};
 pub use machine::Fast;
 pub use tidy::tidy;
 
@@ -180,6 +182,7 @@ fn beats(
 }
 
 /// The words, if they are a pool of the table.
+#[inline(always)]
 fn valid<'a>(table: &[u8], places: &Places, pool: &'a [i32]) -> Result<&'a Pool, Refusal> {
     let pool = pool.try_into().map_err(|_| Refusal::Plain(12))?;
     if is_pool(table, places, pool) {

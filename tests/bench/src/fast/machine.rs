@@ -3,6 +3,7 @@
 use super::{Choice, Pace, Ran, Refusal};
 use oracle::gen::schedules;
 use oracle::machine::Machine;
+use oracle::Reader;
 
 /// The fast implementation.
 pub struct Fast;
@@ -75,6 +76,19 @@ impl Machine for Fast {
         room: &mut [i32; 4],
     ) -> Result<Option<usize>, oracle::Refusal> {
         given(super::values(table, pool, room))
+    }
+
+    fn list(
+        &self,
+        reader: Reader,
+        table: &[u8],
+        pool: &[i32],
+        out: &mut [u8],
+    ) -> Result<usize, oracle::Refusal> {
+        given(match reader {
+            Reader::Operator => super::operator(table, pool, out),
+            Reader::Customer => super::customer(table, pool, out),
+        })
     }
 
     fn schedule(

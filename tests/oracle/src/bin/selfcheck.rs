@@ -17,9 +17,10 @@ use oracle::gen::small::small;
 use oracle::gen::twins::twin;
 use oracle::gen::{bytes, pools, programs, scenario, Scenario};
 use oracle::graph::live;
-use oracle::machine::{complete_differs, differences, unwritten, Oracle};
+use oracle::listing::{listing, Reader, LISTING, LISTING_BYTES};
+use oracle::machine::{complete_differs, differences, unwritten, Machine, Oracle};
 use oracle::openers::Openers;
-use oracle::pool::{Frame, Pool, Purse, MAX_FRAMES, MAX_THREADS, MAX_TOKENS};
+use oracle::pool::{Frame, Pool, Purse, Temporaries, Thread, MAX_FRAMES, MAX_THREADS, MAX_TOKENS};
 use oracle::rng::Rng;
 use oracle::rules::{self, ended, gather, Rule, PROMOTE, STEP};
 use oracle::table::{Function, Program, MAX_FUNCTIONS, TABLE_MAX};
@@ -67,6 +68,7 @@ fn check_round(tally: &mut Tally, rng: &mut Rng) {
         let input = scenario(rng);
         check_scenario(tally, &input);
         check_lent(tally, rng, &input);
+        check_lent_listings(tally, rng, &input);
         if tally.round.is_multiple_of(10) {
             let found = differences(&Oracle, &input);
             tally.expect(found.is_empty(), || format!("{found:?}"));
@@ -118,6 +120,7 @@ fn events() -> Vec<String> {
     events.extend((0..MAX_THREADS as u64).map(watch::promotions_event));
     events.extend(watch::FIRSTS.map(String::from));
     events.extend(watch::BY_FIRST.map(String::from));
+    events.extend(watch::LISTED.map(String::from));
     events.extend(
         [
             "run that returned",
@@ -137,6 +140,8 @@ fn events() -> Vec<String> {
             BEAT,
             RAN,
             STOPPED,
+            SHOWN,
+            HIDDEN,
         ]
         .map(String::from),
     );
@@ -148,6 +153,9 @@ const KEPT: &str = "choice that keeps purses";
 const BEAT: &str = "beat within a run of choices, with promotions";
 const RAN: &str = "run from a fresh pool with 20 promotions";
 const STOPPED: &str = "run that a refused beat ends, after others";
+
+const SHOWN: &str = "other values, which the customer sees";
+const HIDDEN: &str = "other values in older frames alone, which nobody sees";
 
 const BY_PATHS: &str = "depth by all paths";
 const BY_ROUNDS: &str = "depth by rounds alone";
@@ -546,6 +554,9 @@ fn check_run(tally: &mut Tally, rng: &mut Rng, program: &Program) {
         for event in watch::reached(&pool) {
             tally.event(event);
         }
+        if rng.chance(10) {
+            check_listings(tally, rng, program, &pool);
+        }
         if ended(program, &pool.root).is_some() {
             left = left.min(3);
         }
@@ -836,6 +847,115 @@ fn check_by_first(tally: &mut Tally, rng: &mut Rng, program: &Program, start: &P
         tally.event(event);
     }
     left
+}
+
+/// The listings of words that are a pool of any table that reads, and what
+/// outputs of any length get.
+fn check_lent_listings(tally: &mut Tally, rng: &mut Rng, input: &Scenario) {
+    if let Ok((program, pool)) = decode(input) {
+        check_listings(tally, rng, &program, &pool);
+        for reader in Reader::ALL {
+            let length = listing(&pool, reader).len();
+            let less = rng.below(length);
+            for room in [less, length - 1, length, length + 1, LISTING_BYTES] {
+                check_listing_room(tally, input, &pool, reader, room);
+            }
+        }
+    }
+}
+
+/// What an output of a length gets: 28 and nothing written, or the listing and
+/// the bytes behind it as they were.
+fn check_listing_room(
+    tally: &mut Tally,
+    input: &Scenario,
+    pool: &Pool,
+    reader: Reader,
+    room: usize,
+) {
+    let listing = listing(pool, reader);
+    let length = listing.len();
+    let mut out = unwritten(room);
+    let answer = Oracle.list(reader, &input.table, &input.words, &mut out);
+    let (due, left) = if room < length {
+        (Err(Refusal::plain(LISTING)), unwritten(room))
+    } else {
+        let rest = &unwritten(room)[length..];
+        (Ok(length), [listing.as_bytes(), rest].concat())
+    };
+    tally.expect(answer == due && out == left, || {
+        format!("{reader:?}, {room} bytes: {answer:?}, {due:?} is due")
+    });
+    if let Err(refusal) = answer {
+        tally.refusal(refusal.number);
+    }
+}
+
+/// Both listings of a pool. Every thread has its line, in the order of their
+/// numbers, one space deeper than its parent's; the operator's line is the
+/// customer's without what follows its seventh number. With other values the
+/// operator's listing is the same, and the customer's exactly if the newest
+/// frames have the same.
+fn check_listings(tally: &mut Tally, rng: &mut Rng, program: &Program, pool: &Pool) {
+    let [operator, customer] = Reader::ALL.map(|reader| listing(pool, reader));
+    let erased: String = customer.lines().map(erased).collect();
+    tally.expect(erased == operator, || {
+        format!("{customer:?} without values is {erased:?}, not {operator:?}")
+    });
+    let mut depths = Vec::new();
+    note_depths(&pool.root, 0, &mut depths);
+    let due = depths.into_iter().enumerate();
+    tally.expect(operator.lines().map(heading).eq(due.map(Some)), || {
+        format!("{operator:?} lists {pool:?}")
+    });
+    tally.expect(customer.len() <= LISTING_BYTES, || {
+        format!("a listing of {} bytes", customer.len())
+    });
+    let other = pools::other_values(rng, pool);
+    let decoded = Pool::from_words(program, &other.to_words());
+    tally.expect(decoded.as_ref() == Ok(&other), || {
+        format!("no pool with other values: {other:?}")
+    });
+    let hidden = newest_values(pool) == newest_values(&other);
+    let same = Reader::ALL.map(|reader| listing(&other, reader) == listing(pool, reader));
+    tally.expect(same == [true, hidden], || {
+        format!("{other:?}, {pool:?}: {same:?} of the listings")
+    });
+    if other != *pool {
+        tally.event(if hidden { HIDDEN } else { SHOWN });
+    }
+    for event in watch::listed(pool) {
+        tally.event(event);
+    }
+}
+
+/// A line without what follows its seventh number.
+fn erased(line: &str) -> String {
+    let numbers = line.trim_start();
+    let front: Vec<&str> = numbers.split(' ').take(7).collect();
+    let deep = &line[..line.len() - numbers.len()];
+    format!("{deep}{}\n", front.join(" "))
+}
+
+/// A line's number and how deep it stands.
+fn heading(line: &str) -> Option<(usize, usize)> {
+    let numbers = line.trim_start();
+    let number = numbers.split(' ').next()?.parse().ok()?;
+    Some((number, line.len() - numbers.len()))
+}
+
+/// The depth of every thread of a tree, in their order.
+fn note_depths(thread: &Thread, depth: usize, depths: &mut Vec<usize>) {
+    depths.push(depth);
+    for child in thread.children.iter().rev() {
+        note_depths(child, depth + 1, depths);
+    }
+}
+
+/// What the newest frame of each thread has bound.
+fn newest_values(pool: &Pool) -> Vec<Temporaries> {
+    let threads = pool.threads();
+    threads.iter().map(|t| t.current().temporaries).collect()
 }
 
 /// The lists by the answers are the tree's own, and every open call has for its
@@ -1178,11 +1298,16 @@ const NO_PACE: Pace = Pace { n: 0, c: 256 };
 fn check_undecoded(tally: &mut Tally, input: &Scenario, refusal: Refusal) {
     tally.refusal(refusal.number);
     let mut words = input.words.clone();
+    let mut out = unwritten(LISTING_BYTES);
     let given = [
         oracle::choose(&input.table, &mut words, 0, 0).err(),
         oracle::choose(&input.table, &mut words, 2, 9).err(),
         oracle::which(&input.table, &words).err(),
         oracle::values(&input.table, &words).err(),
+        oracle::operator(&input.table, &words, &mut []).err(),
+        oracle::operator(&input.table, &words, &mut out).err(),
+        oracle::customer(&input.table, &words, &mut []).err(),
+        oracle::customer(&input.table, &words, &mut out).err(),
         oracle::schedule(&input.table, &mut words, &[]).1,
         oracle::schedule(&input.table, &mut words, &input.choices).1,
         oracle::beat(&input.table, &mut words, NO_PACE, 9).err(),
@@ -1192,8 +1317,9 @@ fn check_undecoded(tally: &mut Tally, input: &Scenario, refusal: Refusal) {
     ];
     let same = given.iter().all(|other| *other == Some(refusal));
     tally.expect(same, || format!("{refusal:?} due, {given:?} given"));
-    tally.expect(words == input.words, || {
-        "a refusal changed the words".to_string()
+    let kept = words == input.words && out == unwritten(LISTING_BYTES);
+    tally.expect(kept, || {
+        "a refusal changed the words or the output".to_string()
     });
 }
 

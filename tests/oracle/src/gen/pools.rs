@@ -285,6 +285,23 @@ fn any_purse(rng: &mut Rng) -> Purse {
     }
 }
 
+/// The same pool with other values: some or all of those bound in any frame.
+pub fn other_values(rng: &mut Rng, pool: &Pool) -> Pool {
+    let mut pool = pool.clone();
+    let share = rng.one_of([5, 50, 100]);
+    for number in 0..pool.size() {
+        let thread = pool.thread_mut(number).expect("a thread below the size");
+        let frames = thread.frames.iter_mut();
+        let bound = frames.flat_map(|frame| frame.temporaries.iter_mut().flatten());
+        for value in bound {
+            if rng.chance(share) {
+                *value = rng.value();
+            }
+        }
+    }
+    pool
+}
+
 /// The edges of what purses of a lent pool hold, by name.
 pub const EDGES: [&str; 5] = [
     "thread lent with work 0",

@@ -1,0 +1,4 @@
+pub mod Texts
+pub mod Frames
+pub mod Lists
+pub mod Listings

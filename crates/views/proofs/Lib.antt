@@ -1,0 +1,9 @@
+pub mod Grown
+pub mod Trees
+pub mod Hidden
+pub mod Agreeing
+pub mod Private
+pub mod Erased
+pub mod Lengths
+pub mod Short
+pub mod Rows
