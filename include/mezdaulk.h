@@ -45,7 +45,7 @@ extern "C" {
 /* The value of a given answer. */
 #define MEZDAULK_VALUE(answer) ((uint32_t)((uint64_t)(answer) & 0xFFFFFFFFu))
 
-/* The number of a refusal, 1 to 28; the place of a 3; the function and the block of 4 to 11, 25 and 26. */
+/* The number of a refusal, 1 to 29; the place of a 3; the function and the block of 4 to 11, 25 and 26. */
 #define MEZDAULK_NUMBER(answer) ((unsigned)((uint64_t)(answer) & 0xFFu))
 #define MEZDAULK_PLACE(answer) ((unsigned)(((uint64_t)(answer) >> 8) & 0xFFFFFFu))
 #define MEZDAULK_BLOCK(answer) ((unsigned)(((uint64_t)(answer) >> 8) & 0xFFu))
@@ -101,8 +101,10 @@ extern "C" {
 #define MEZDAULK_REFUSED_IMPOSSIBLE 26u /* no scopes and nestings make a function well formed */
 /* of a beat, */
 #define MEZDAULK_REFUSED_PACE 27u /* N is not 1 to 65,535, or C not 1 to 255 */
-/* and of a listing. */
+/* of a listing, */
 #define MEZDAULK_REFUSED_LISTING 28u /* the output is shorter than the listing */
+/* and of a step. */
+#define MEZDAULK_REFUSED_OVERFLOW 29u /* the thread's next sum or negation does not fit in 32 bits */
 
 /* The rules that a choice makes: 1 to 9 by a step, 10 by a promotion. */
 #define MEZDAULK_RULE_STMT 1u     /* a statement */
@@ -125,14 +127,14 @@ struct mezdaulk_choice {
 /* Does the table read? Given: 0. Refused: 1 to 3. */
 uint64_t mezdaulk_read(const uint8_t *table, size_t bytes);
 
-/* Is the table well formed? Given: 0, and then no list of choices ever jams a pool started from it. Refused: 1 to 11, the
- * first fault in order. */
+/* Is the table well formed? Given: 0, and then no list of choices ever jams a pool started from it: main has returned, or some thread
+ * can step, or a step of some thread gets 18 or 29, and no choice gets 19. Refused: 1 to 11, the first fault in order. */
 uint64_t mezdaulk_check(const uint8_t *table, size_t bytes);
 
 /* How many frames can a chain of calls need? Given: the depth of a table that the check accepts, 1 to 16: the most over every
  * function as the first and the calls of all blocks, reached or not; a spawn call adds nothing. Where it is at most 8, no thread of a
- * pool started from the table ever has more frames than that, no choice gets 18, and main has returned or some thread can step.
- * Refused: 1 to 11 as by the check; 22 where some function reaches itself by calls. */
+ * pool started from the table ever has more frames than that, no choice gets 18, and main has returned, or some thread can step, or a
+ * step of some thread gets 29. Refused: 1 to 11 as by the check; 22 where some function reaches itself by calls. */
 uint64_t mezdaulk_depth(const uint8_t *table, size_t bytes);
 
 /* Writes a table that the check accepts afresh, tidy, at the start of out, which has room for so many bytes. Main and each entry keep
@@ -156,13 +158,15 @@ uint64_t mezdaulk_complete(const uint8_t *table, size_t bytes, uint8_t *out, siz
  * as they were. */
 uint64_t mezdaulk_start(const uint8_t *table, size_t bytes, int32_t *pool, size_t words);
 
-/* One choice, made in place. Given: the rule, 1 to 10. Refused: 1 to 3, 12 to 21; the words are then as they were. A choice leaves the
- * work and the tokens of every thread that stays: a child begins with none, and those of a child that is joined go with it. */
+/* One choice, made in place. Given: the rule, 1 to 10. Refused: 1 to 3, 12 to 21; a step also 29, where its statement or its if works out
+ * a sum or a negation that does not fit in 32 bits, with its operands bound; the words are then as they were. A choice leaves the work
+ * and the tokens of every thread that stays: a child begins with none, and those of a child that is joined go with it. */
 uint64_t mezdaulk_choose(const uint8_t *table, size_t bytes, int32_t *pool, size_t words, uint32_t kind, uint32_t thread);
 
 /* Which thread can step? Given: the lowest-numbered thread whose step makes a rule, or MEZDAULK_NO_THREAD exactly if there is none. Two
  * runs of plain steps, each of the thread that it names, with one table and from equal words, make the same rules and leave the same
- * words, as far as both go. Refused: 1 to 3, 12, 13. */
+ * words, as far as both go. Where it is none of a pool started from a table that the check accepts, main has returned or a step of some
+ * thread gets 18 or 29. Refused: 1 to 3, 12, 13. */
 uint64_t mezdaulk_which(const uint8_t *table, size_t bytes, const int32_t *pool, size_t words);
 
 /* Main's values. Given: how many there are, 0 to 4, and that many of values are written; or MEZDAULK_OPEN while main has not
@@ -170,8 +174,8 @@ uint64_t mezdaulk_which(const uint8_t *table, size_t bytes, const int32_t *pool,
 uint64_t mezdaulk_values(const uint8_t *table, size_t bytes, const int32_t *pool, size_t words, int32_t values[4]);
 
 /* A list of choices, made in place up to the first refusal. Given: 0, if there is none. Refused: 1 to 3, 12, 13 before any
- * choice, or the refusal of the first refused choice, 14 to 21. made is written either way: how many choices were made; what
- * they did stays in the pool. */
+ * choice, or the refusal of the first refused choice, 14 to 21 or 29. made is written either way: how many choices were made;
+ * what they did stays in the pool. */
 uint64_t mezdaulk_schedule(const uint8_t *table, size_t bytes, int32_t *pool, size_t words,
                            const struct mezdaulk_choice *choices, size_t count, uint64_t *made);
 
@@ -179,14 +183,14 @@ uint64_t mezdaulk_schedule(const uint8_t *table, size_t bytes, int32_t *pool, si
  * tokens of the child that it joined come to the thread. Its work grows by 1, and where that is n or more it returns to 0 and c tokens
  * come; what would be above 2,000,000,000 is dropped. Then, as long as the thread has a token and a promotion of it would be made, that
  * is made for one token, and half of those left, rounded down, go to the child. Given: the rule of the step, 1 to 9, and 256 times the
- * number of promotions, 0 to 7, which MEZDAULK_RULE and MEZDAULK_PROMOTIONS read. Refused: 1 to 3, 12, 13, 27, and 15 to 19 as a step
- * is; the words are then as they were. */
+ * number of promotions, 0 to 7, which MEZDAULK_RULE and MEZDAULK_PROMOTIONS read. Refused: 1 to 3, 12, 13, 27, and 15 to 19 or 29 as
+ * a step is; the words are then as they were. */
 uint64_t mezdaulk_beat(const uint8_t *table, size_t bytes, int32_t *pool, size_t words, uint32_t thread, uint32_t n, uint32_t c);
 
 /* A run: a beat of each thread of a list, all with one n and one c, made in place up to the first refusal. Given: 0, if there is none.
- * Refused: 1 to 3, 12, 13, 27 before any beat, also where the list is empty, or the refusal of the first refused beat, 15 to 19. made is
- * written either way: how many steps were made, and how many promotions; what they did stays in the pool. In a run from a fresh pool
- * made[1] times n is at most c times made[0]. */
+ * Refused: 1 to 3, 12, 13, 27 before any beat, also where the list is empty, or the refusal of the first refused beat, 15 to 19 or 29.
+ * made is written either way: how many steps were made, and how many promotions; what they did stays in the pool. In a run from a fresh
+ * pool made[1] times n is at most c times made[0]. */
 uint64_t mezdaulk_run(const uint8_t *table, size_t bytes, int32_t *pool, size_t words, uint32_t n, uint32_t c,
                       const uint32_t *threads, size_t count, uint64_t made[2]);
 

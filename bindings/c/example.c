@@ -1,6 +1,7 @@
 /* Checks table B of document 01, writes it afresh, completes it from what has no scopes and nestings, and runs it, by beats, by the
  * first thread that can step and by choices: the spork's call is promoted and joined, and main returns 7. On the way its pool is listed
- * for an operator and for a customer. Each answer is printed and held to what it must be; the status is 1 if one is another. */
+ * for an operator and for a customer, and its child is given a sum that overflows. Each answer is printed and held to what it must be;
+ * the status is 1 if one is another. */
 #include <inttypes.h>
 #include <stdio.h>
 #include <string.h>
@@ -192,6 +193,46 @@ static void listings(void) {
     lists("the customer's listing", mezdaulk_customer, pool, "0 1 0 1 0 1 1\n 1 1 1 0 1 0 0 0 -2147483648\n");
 }
 
+/* The number for which a thread keeps the pool standing where none can step: 18 or 29; 0 if no thread does. */
+static unsigned standing(const uint8_t *code, size_t bytes, int32_t *pool, uint32_t *thread) {
+    for (*thread = 0; *thread < MEZDAULK_NO_THREAD; ++*thread) {
+        const uint64_t step = mezdaulk_choose(code, bytes, pool, MEZDAULK_POOL_WORDS, MEZDAULK_STEP, *thread);
+        const unsigned number = MEZDAULK_GIVEN(step) ? 0 : MEZDAULK_NUMBER(step);
+        if (number == MEZDAULK_REFUSED_FRAMES || number == MEZDAULK_REFUSED_OVERFLOW) {
+            return number;
+        }
+    }
+    return 0;
+}
+
+/* B, whose child works out 2147483647 + 1 in place of 7: the child overflows, and main waits for it. */
+static void overflows(void) {
+    static const uint8_t sum[] = {2, 0, 0x7F, 0xFF, 0xFF, 0xFF, 0, 0, 0, 0, 1, 3, 1, 0};
+    static int32_t pool[MEZDAULK_POOL_WORDS], before[MEZDAULK_POOL_WORDS];
+    const struct mezdaulk_choice choices[] = {{MEZDAULK_STEP, 0}, {MEZDAULK_PROMOTE, 0}, {MEZDAULK_STEP, 1}};
+    const size_t words = MEZDAULK_POOL_WORDS, same = 63, bytes = same + sizeof sum;
+    uint8_t code[sizeof table + sizeof sum];
+    int32_t values[4] = {-1, -1, -1, -1};
+    uint64_t made = 99;
+    uint32_t thread;
+    memcpy(code, table, same);
+    memcpy(code + same, sum, sizeof sum);
+    code[3] = (uint8_t)bytes;
+    given("check of a table that overflows", mezdaulk_check(code, bytes), 0);
+    given("start", mezdaulk_start(code, bytes, pool, words), 0);
+    refused("step 0, promote 0, step 1", mezdaulk_schedule(code, bytes, pool, words, choices, 3, &made), MEZDAULK_REFUSED_OVERFLOW);
+    hold("the number made", (int64_t)made, 2);
+    memcpy(before, pool, sizeof before);
+    refused("step 0", mezdaulk_choose(code, bytes, pool, words, MEZDAULK_STEP, 0), MEZDAULK_REFUSED_WAITS);
+    refused("beat 1", mezdaulk_beat(code, bytes, pool, words, 1, 1, 1), MEZDAULK_REFUSED_OVERFLOW);
+    given("which", mezdaulk_which(code, bytes, pool, words), MEZDAULK_NO_THREAD);
+    given("values", mezdaulk_values(code, bytes, pool, words, values), MEZDAULK_OPEN);
+    four(values, -1);
+    hold("the number of the standing", standing(code, bytes, pool, &thread), MEZDAULK_REFUSED_OVERFLOW);
+    hold("its thread", thread, 1);
+    hold("the words", memcmp(pool, before, sizeof before), 0);
+}
+
 int main(void) {
     static int32_t pool[MEZDAULK_POOL_WORDS];
     uint8_t damaged[sizeof table];
@@ -218,6 +259,7 @@ int main(void) {
     beats();
     orders();
     listings();
+    overflows();
 
     refused("start with no words", mezdaulk_start(table, bytes, NULL, 0), MEZDAULK_REFUSED_WORDS);
     given("start", mezdaulk_start(table, bytes, pool, words), 0);

@@ -1,7 +1,7 @@
 #!/usr/bin/env python3
 """Checks table B of document 01, writes it afresh, completes it from what has no scopes and nestings, and runs it, by beats, by the
 first thread that can step and by choices, through the shared object: the spork's call is promoted and joined, and main returns 7. On the
-way its pool is listed for an operator and for a customer.
+way its pool is listed for an operator and for a customer, and its child is given a sum that overflows.
 
 example.py [LIBRARY]; without it MEZDAULK_LIBRARY is taken, or target/make/libmezdaulk.so of this repository, which make builds. Each
 answer is printed and held to what it must be; the status is 1 if one is another.
@@ -19,8 +19,8 @@ NOWHERE = 255
 STEP, PROMOTE = 0, 1
 NO_THREAD = 8
 OPEN = 255
-REFUSED_VERSION, REFUSED_FORM, REFUSED_WORDS, REFUSED_ENDED, REFUSED_WAITS, REFUSED_ROOM = 2, 3, 12, 16, 17, 23
-REFUSED_LENT, REFUSED_UNREACHED, REFUSED_IMPOSSIBLE, REFUSED_PACE, REFUSED_LISTING = 24, 25, 26, 27, 28
+REFUSED_VERSION, REFUSED_FORM, REFUSED_WORDS, REFUSED_ENDED, REFUSED_WAITS, REFUSED_FRAMES, REFUSED_ROOM = 2, 3, 12, 16, 17, 18, 23
+REFUSED_LENT, REFUSED_UNREACHED, REFUSED_IMPOSSIBLE, REFUSED_PACE, REFUSED_LISTING, REFUSED_OVERFLOW = 24, 25, 26, 27, 28, 29
 RULE_STMT, RULE_SPORK, RULE_PROM, RULE_PROMOTE = 1, 7, 9, 10
 
 
@@ -282,6 +282,35 @@ def listings(lib, held):
             held.hold("the output", bytes(out), due.encode() + fresh[len(due):])
 
 
+def standing(lib, table, pool):
+    """Where no thread can step and main has not returned: the threads whose step gets 18 or 29, each with that number."""
+    steps = ((thread, lib.mezdaulk_choose(*table, *pool, STEP, thread)) for thread in range(NO_THREAD))
+    return [(thread, NUMBER(step)) for thread, step in steps if NUMBER(step) in (REFUSED_FRAMES, REFUSED_OVERFLOW)]
+
+
+def overflows(lib, held):
+    """B, whose child works out 2147483647 + 1 in place of 7: the child overflows, and main waits for it."""
+    code = bytearray(TABLE_B)
+    code[63:69] = bytes.fromhex("02 00 7FFFFFFF 00 00000001")
+    code[3] = len(code)
+    table = lent(code)
+    pool = (ctypes.c_int32 * POOL_WORDS)(), POOL_WORDS
+    held.given("check of a table that overflows", lib.mezdaulk_check(*table), 0)
+    held.given("start", lib.mezdaulk_start(*table, *pool), 0)
+    choices = (Choice * 3)((STEP, 0), (PROMOTE, 0), (STEP, 1))
+    made = ctypes.c_uint64(99)
+    answer = lib.mezdaulk_schedule(*table, *pool, choices, len(choices), ctypes.byref(made))
+    held.refused("step 0, promote 0, step 1", answer, REFUSED_OVERFLOW)
+    held.hold("the number made", made.value, 2)
+    before = list(pool[0])
+    held.refused("step 0", lib.mezdaulk_choose(*table, *pool, STEP, 0), REFUSED_WAITS)
+    held.refused("beat 1", lib.mezdaulk_beat(*table, *pool, 1, 1, 1), REFUSED_OVERFLOW)
+    held.given("which", lib.mezdaulk_which(*table, *pool), NO_THREAD)
+    held.given("values", lib.mezdaulk_values(*table, *pool, Values(-1, -1, -1, -1)), OPEN)
+    held.hold("what keeps the pool standing", standing(lib, table, pool), [(1, REFUSED_OVERFLOW)])
+    held.hold("the words", list(pool[0]), before)
+
+
 def run(lib, held):
     """A pool is started and run to its result."""
     table = lent(TABLE_B)
@@ -318,6 +347,7 @@ def main():
     beats(lib, held)
     by_first(lib, held)
     listings(lib, held)
+    overflows(lib, held)
     run(lib, held)
     return 1 if held.wrong else 0
 

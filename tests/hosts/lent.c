@@ -13,6 +13,7 @@
 #include "line.h"
 #include "listed.h"
 #include "mezdaulk.h"
+#include "overflow.h"
 #include "spawner.h"
 #include "table_b.h"
 
@@ -347,14 +348,83 @@ static void which_fenced(enum side side, const uint8_t *code, size_t length, con
     kept_beside("beside the pool", lent_pool);
 }
 
-/* Where several can step, one waits, one is stuck, each of eight is the only one, none has a frame left, and none is left. */
+/* Where several can step, one waits, one is stuck, one overflows, each of eight is the only one, none has a frame left, and none is
+ * left. */
 static void whiches(enum side side) {
     uint8_t deep[LINE_ROOM];
     const size_t length = line(deep, 1, 1);
     which_fenced(side, busy_b, sizeof busy_b, busy_asked, sizeof busy_asked / sizeof busy_asked[0]);
     which_fenced(side, stuck_b, sizeof stuck_b, stuck_asked, sizeof stuck_asked / sizeof stuck_asked[0]);
+    which_fenced(side, over_b, sizeof over_b, over_asked, sizeof over_asked / sizeof over_asked[0]);
     which_fenced(side, spawner, sizeof spawner, spawner_asked, sizeof spawner_asked / sizeof spawner_asked[0]);
     which_fenced(side, deep, length, deep_asked, sizeof deep_asked / sizeof deep_asked[0]);
+}
+
+/* One step that works out a sum, with all that is lent at fences: as a choice, a schedule of two, a beat and a run of two. A step that
+ * is refused changes no word, and counts in no number made. */
+static void sum_fenced(enum side side, const uint8_t *code, size_t length, uint64_t due) {
+    static const struct mezdaulk_choice steps[] = {{MEZDAULK_STEP, 0}, {MEZDAULK_STEP, 0}};
+    static const uint32_t beats[] = {0, 0};
+    static int32_t fresh[MEZDAULK_POOL_WORDS];
+    const struct lent lent_table = lend(side, code, length), lent_pool = lend(side, NULL, sizeof fresh);
+    const struct lent lent_steps = lend(side, steps, sizeof steps), lent_beats = lend(side, beats, sizeof beats);
+    const struct lent lent_made = lend(side, NULL, 2 * sizeof(uint64_t));
+    const struct mezdaulk_choice *choices_lent = (const struct mezdaulk_choice *)(const void *)lent_steps.at;
+    const uint32_t *threads_lent = (const uint32_t *)(const void *)lent_beats.at;
+    const uint8_t *t = lent_table.at;
+    int32_t *p = (int32_t *)(void *)lent_pool.at;
+    uint64_t *made = (uint64_t *)(void *)lent_made.at;
+    const size_t n = MEZDAULK_POOL_WORDS;
+    const int fits = MEZDAULK_GIVEN(due);
+    const uint64_t then = fits ? REFUSED(MEZDAULK_REFUSED_ENDED) : due;
+    hold("start", mezdaulk_start(t, length, p, n), GIVEN(0));
+    memcpy(fresh, p, sizeof fresh);
+    hold("which of a sum", mezdaulk_which(t, length, p, n), GIVEN(fits ? 0 : MEZDAULK_NO_THREAD));
+    hold("no kind before a sum", mezdaulk_choose(t, length, p, n, 2, 0), REFUSED(MEZDAULK_REFUSED_KIND));
+    hold("no thread before a sum", mezdaulk_choose(t, length, p, n, MEZDAULK_STEP, 1), REFUSED(MEZDAULK_REFUSED_THREAD));
+    hold("a promotion at a sum", mezdaulk_choose(t, length, p, n, MEZDAULK_PROMOTE, 0), REFUSED(MEZDAULK_REFUSED_PROMOTED));
+    hold("a step of a sum", mezdaulk_choose(t, length, p, n, MEZDAULK_STEP, 0), due);
+    hold("the words of a sum", (uint64_t)(memcmp(p, fresh, sizeof fresh) == 0), (uint64_t)!fits);
+    memcpy(p, fresh, sizeof fresh);
+    made[0] = made[1] = 99;
+    hold("a schedule of a sum", mezdaulk_schedule(t, length, p, n, choices_lent, 2, made), then);
+    hold("choices made of a sum", made[0], (uint64_t)fits);
+    hold("the words of its schedule", (uint64_t)(memcmp(p, fresh, sizeof fresh) == 0), (uint64_t)!fits);
+    memcpy(p, fresh, sizeof fresh);
+    hold("a beat of a sum", mezdaulk_beat(t, length, p, n, 0, 1, 1), due);
+    hold("the words of its beat", (uint64_t)(memcmp(p, fresh, sizeof fresh) == 0), (uint64_t)!fits);
+    hold("a beat of no pace at a sum", mezdaulk_beat(t, length, p, n, 0, 0, 1), REFUSED(MEZDAULK_REFUSED_PACE));
+    memcpy(p, fresh, sizeof fresh);
+    made[0] = made[1] = 99;
+    hold("a run of a sum", mezdaulk_run(t, length, p, n, 1, 1, threads_lent, 2, made), then);
+    hold("steps of a sum", made[0], (uint64_t)fits);
+    hold("promotions of a sum", made[1], 0);
+    hold("the words of its run", (uint64_t)(memcmp(p, fresh, sizeof fresh) == 0), (uint64_t)!fits);
+    hold("the table", (uint64_t)(memcmp(t, code, length) != 0), 0);
+    kept_beside("beside the table", lent_table);
+    kept_beside("beside the pool", lent_pool);
+    kept_beside("beside the choices", lent_steps);
+    kept_beside("beside the threads", lent_beats);
+    kept_beside("beside the numbers made", lent_made);
+}
+
+/* Sums at both ends of 32 bits and beyond them, in a statement, in an if, and in an if whose blocks are missing; and negations. */
+static void sums(enum side side) {
+    uint8_t code[SUM_ROOM];
+    size_t k;
+    for (k = 0; k < SUMS; k++) {
+        const struct summed s = summed[k];
+        const uint64_t over = REFUSED(MEZDAULK_REFUSED_OVERFLOW);
+        const size_t statement = adding(code, s.m, s.n);
+        sum_fenced(side, code, statement, s.fits ? GIVEN(MEZDAULK_RULE_STMT) : over);
+        sum_fenced(side, code, deciding(code, s.m, s.n, 0), s.fits ? GIVEN(MEZDAULK_RULE_THEN) : over);
+        sum_fenced(side, code, deciding(code, s.m, s.n, 1), s.fits ? REFUSED(MEZDAULK_REFUSED_STUCK) : over);
+    }
+    for (k = 0; k < NEGATIONS; k++) {
+        const struct summed s = negated[k];
+        const size_t statement = negating(code, s.m);
+        sum_fenced(side, code, statement, s.fits ? GIVEN(MEZDAULK_RULE_STMT) : REFUSED(MEZDAULK_REFUSED_OVERFLOW));
+    }
 }
 
 /* A call that lists a pool. */
@@ -580,6 +650,7 @@ int main(void) {
         run_fenced((enum side)side);
         beats_fenced((enum side)side);
         whiches((enum side)side);
+        sums((enum side)side);
         listings((enum side)side);
         tidy_fenced((enum side)side, table_b, sizeof table_b, table_b, sizeof table_b);
         tidy_fenced((enum side)side, untidy_b, sizeof untidy_b, table_b, sizeof table_b);

@@ -34,7 +34,8 @@ pub fn check(table: &[u8]) -> Result<(), Refusal> {
 
 /// How many frames a chain of calls can need, 1 to 16: the most over every function as the first and the calls of all blocks,
 /// reached or not. Where it is at most 8, no choice on a pool started from the table gets 18
-/// ([`Reason::Frames`](crate::Reason::Frames)). Refused: 1 to 11 as by [`check`]; 22 where some function reaches itself by calls.
+/// ([`Reason::Frames`](crate::Reason::Frames)), and main has returned, or some thread can step, or a step of some thread gets 29. Refused:
+/// 1 to 11 as by [`check`]; 22 where some function reaches itself by calls.
 ///
 /// ```
 /// use mezdaulk::{check, depth, Reason};
@@ -121,7 +122,22 @@ pub fn start(table: &[u8], pool: &mut [i32]) -> Result<(), Refusal> {
     .map(|_| ())
 }
 
-/// One choice. Refused: 1 to 3, 12 to 21.
+/// One choice. Refused: 1 to 3, 12 to 21; a step also 29, where the sum or the negation that it works out does not fit in 32 bits.
+///
+/// ```
+/// use mezdaulk::{lent, Choice, Pool, Reason};
+///
+/// // One statement, 2147483647 + 1, and a return.
+/// let table = [
+///     0, 0, 0, 30, 1, 1, 0, 1, 1, 0, 0, 0, 0, 0, 1, 0, 2, 0, 127, 255, 255, 255, 0, 0, 0, 0, 1, 3, 1, 0,
+/// ];
+/// let mut words = [0; Pool::WORDS];
+/// lent::start(&table, &mut words)?;
+/// let refusal = lent::choose(&table, &mut words, Choice::step(0)).unwrap_err();
+/// assert_eq!(refusal.reason(), Reason::Overflow);
+/// assert_eq!(lent::which(&table, &words)?, None);
+/// # Ok::<(), mezdaulk::Refusal>(())
+/// ```
 pub fn choose(table: &[u8], pool: &mut [i32], choice: Choice) -> Result<Rule, Refusal> {
     // Safety: as in `start`.
     answered(unsafe {
@@ -141,7 +157,7 @@ fn rule(number: u8) -> Rule {
     Rule::try_from(number).expect("the library makes one of rules 1 to 10")
 }
 
-/// Choices up to the first refusal: how many were made, and that refusal, 1 to 3 or 12 to 21.
+/// Choices up to the first refusal: how many were made, and that refusal, 1 to 3, 12 to 21 or 29.
 pub fn schedule(
     table: &[u8],
     pool: &mut [i32],
@@ -164,8 +180,8 @@ pub fn schedule(
     (made as usize, answered(answer).map(|_| ()))
 }
 
-/// One beat: a step of a thread with the tokens that it earns, then promotions for them. Refused: 1 to 3, 12, 13, 27, 15 to 19.
-/// [`Pool::beat`](crate::Pool::beat) says what it does.
+/// One beat: a step of a thread with the tokens that it earns, then promotions for them. Refused: 1 to 3, 12, 13, 27, and 15 to
+/// 19 or 29 as a step is. [`Pool::beat`](crate::Pool::beat) says what it does.
 ///
 /// ```
 /// use mezdaulk::{lent, Beat, Pace, Pool, Reason, Rule};
@@ -203,8 +219,8 @@ pub fn beat(table: &[u8], pool: &mut [i32], pace: Pace, thread: u32) -> Result<B
     })
 }
 
-/// A beat of each thread of a list, up to the first refusal: the steps and promotions made, and that refusal, 1 to 3, 12, 13, 27 or 15
-/// to 19.
+/// A beat of each thread of a list, up to the first refusal: the steps and promotions made, and that refusal, 1 to 3, 12, 13, 27, 15
+/// to 19 or 29.
 pub fn run(
     table: &[u8],
     pool: &mut [i32],
@@ -231,7 +247,8 @@ pub fn run(
     (Ran { steps, promotions }, answered(answer).map(|_| ()))
 }
 
-/// The lowest-numbered thread whose step makes a rule, or none exactly if there is none. Refused: 1 to 3, 12, 13.
+/// The lowest-numbered thread whose step makes a rule, or none exactly if there is none. Refused: 1 to 3, 12, 13. Where it is none of a
+/// pool started from a table that [`check`] accepts, main has returned or a step of some thread gets 18 or 29.
 pub fn which(table: &[u8], pool: &[i32]) -> Result<Option<u32>, Refusal> {
     // Safety: both slices are valid for their lengths, and nothing is written.
     answered(unsafe { raw::mezdaulk_which(table.as_ptr(), table.len(), pool.as_ptr(), pool.len()) })

@@ -98,6 +98,7 @@ numbered! {
         Impossible = 26, "no scopes and nestings make a function well formed";
         Pace = 27, "N is not 1 to 65,535, or C not 1 to 255";
         Listing = 28, "the output is shorter than the listing";
+        Overflow = 29, "the thread's next sum or negation does not fit in 32 bits";
     }
 }
 

@@ -53,12 +53,12 @@ impl Pool {
         &self.words
     }
 
-    /// One choice. Refused: 1 to 3, 13 to 21, and the pool is then as it was.
+    /// One choice. Refused: 1 to 3, 13 to 21 or 29, and the pool is then as it was.
     pub fn choose(&mut self, table: &[u8], choice: Choice) -> Result<Rule, Refusal> {
         lent::choose(table, &mut self.words, choice)
     }
 
-    /// A step of a thread: one of rules 1 to 9. Refused: 1 to 3, 13, 15 to 19.
+    /// A step of a thread: one of rules 1 to 9. Refused: 1 to 3, 13, 15 to 19 or 29.
     pub fn step(&mut self, table: &[u8], thread: u32) -> Result<Rule, Refusal> {
         self.choose(table, Choice::step(thread))
     }
@@ -69,7 +69,7 @@ impl Pool {
         self.choose(table, Choice::promote(thread))
     }
 
-    /// Choices up to the first refusal: how many were made, and that refusal, 1 to 3 or 13 to 21. What they did stays.
+    /// Choices up to the first refusal: how many were made, and that refusal, 1 to 3, 13 to 21 or 29. What they did stays.
     ///
     /// ```
     /// use mezdaulk::{Choice, Pool, Reason};
@@ -89,8 +89,8 @@ impl Pool {
     /// One beat: a step of a thread, and then promotions of it for its tokens. Where the step is made, the tokens of the child that it
     /// joined come to the thread; its work grows by 1, and at `n` or more returns to 0 and `c` tokens come; what would be above
     /// 2,000,000,000 is dropped. Then, as long as the thread has a token and a promotion of it would be made, that is made for one token,
-    /// and half of those left, rounded down, go to the child. Refused: 1 to 3, 13, 27 for a [`Pace`] out of range, 15 to 19 as a step is,
-    /// and the pool is then as it was.
+    /// and half of those left, rounded down, go to the child. Refused: 1 to 3, 13, 27 for a [`Pace`] out of range, 15 to 19 or 29 as a
+    /// step is, and the pool is then as it was.
     ///
     /// ```
     /// use mezdaulk::{Beat, Pace, Pool, Reason, Rule};
@@ -113,8 +113,8 @@ impl Pool {
         lent::beat(table, &mut self.words, pace, thread)
     }
 
-    /// A beat of each thread of a list, up to the first refusal: the steps and promotions made, and that refusal, 1 to 3, 13, 27 or 15 to
-    /// 19. What they did stays. In a run from a fresh pool the promotions times `n` are at most `c` times the steps.
+    /// A beat of each thread of a list, up to the first refusal: the steps and promotions made, and that refusal, 1 to 3, 13, 27, 15 to
+    /// 19 or 29. What they did stays. In a run from a fresh pool the promotions times `n` are at most `c` times the steps.
     ///
     /// ```
     /// use mezdaulk::{Pace, Pool, Ran, Reason};
@@ -134,7 +134,9 @@ impl Pool {
     }
 
     /// The lowest-numbered thread whose step makes a rule, or none exactly if there is none. Two runs of plain steps, each of the thread
-    /// that it names, with one table and from equal pools, make the same rules and pools, as far as both go. Refused: 1 to 3, 13.
+    /// that it names, with one table and from equal pools, make the same rules and pools, as far as both go. Refused: 1 to 3, 13. Where
+    /// it is none of a pool started from a table that [`check`](crate::check) accepts, main has returned or a step of some thread gets 18
+    /// or 29.
     pub fn which(&self, table: &[u8]) -> Result<Option<u32>, Refusal> {
         lent::which(table, &self.words)
     }

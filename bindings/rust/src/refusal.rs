@@ -46,7 +46,7 @@ impl Refusal {
         self.reason
     }
 
-    /// The number, 1 to 28.
+    /// The number, 1 to 29.
     pub const fn number(self) -> u8 {
         self.reason.number()
     }
@@ -67,7 +67,7 @@ impl Refusal {
     /// The refusal in a number that the library answered.
     fn of(answer: u64) -> Self {
         let reason =
-            Reason::try_from(answer as u8).expect("the library refuses with one of 1 to 28");
+            Reason::try_from(answer as u8).expect("the library refuses with one of 1 to 29");
         let place = match reason.number() {
             3 => Some(Place::Byte((answer >> 8 & 0xFF_FFFF) as usize)),
             4..=11 | 25 | 26 => Some(fault(answer)),

@@ -121,6 +121,77 @@ fn runs_by_the_first_are_the_same() {
     assert_eq!(by_first(&table, &mut pool, 9), [(0, Rule::Call); 7]);
     assert_eq!(reason(pool.step(&table, 0)), Reason::Frames);
     assert_eq!(pool.values(&table), Ok(None));
+    // And at a sum that does not fit.
+    let table = adding(i32::MAX, 1);
+    let mut pool = Pool::start(&table).unwrap();
+    assert_eq!(by_first(&table, &mut pool, 9), []);
+    assert_eq!(reason(pool.step(&table, 0)), Reason::Overflow);
+    assert_eq!(pool.values(&table), Ok(None));
+}
+
+/// A with another sum.
+fn adding(m: i32, n: i32) -> Vec<u8> {
+    let mut table = A.to_vec();
+    table[18..22].copy_from_slice(&m.to_be_bytes());
+    table[23..27].copy_from_slice(&n.to_be_bytes());
+    table
+}
+
+/// Sums at both ends of 32 bits, and one beyond each.
+#[test]
+fn sums_that_overflow() {
+    let pace = Pace { n: 1, c: 1 };
+    for (m, n) in [
+        (i32::MAX, 0),
+        (i32::MIN, 0),
+        (i32::MIN + 1, -1),
+        (i32::MAX, i32::MIN),
+    ] {
+        let table = adding(m, n);
+        let mut pool = Pool::start(&table).unwrap();
+        assert_eq!(pool.step(&table, 0), Ok(Rule::Stmt));
+        assert_eq!(*pool.values(&table).unwrap().unwrap(), [m + n]);
+    }
+    for (m, n) in [
+        (i32::MAX, 1),
+        (i32::MIN, -1),
+        (1, i32::MAX),
+        (i32::MIN, i32::MIN),
+    ] {
+        let table = adding(m, n);
+        assert_eq!(check(&table), Ok(()));
+        let mut pool = Pool::start(&table).unwrap();
+        let fresh = pool.clone();
+        let refused = pool.step(&table, 0).unwrap_err();
+        assert_eq!((refused.reason(), refused.number()), (Reason::Overflow, 29));
+        assert_eq!(refused.place(), None);
+        assert_eq!(
+            refused.to_string(),
+            "the thread's next sum or negation does not fit in 32 bits (refusal 29)"
+        );
+        // 14 and 15 come before it, and a promotion never gets it.
+        let no_kind = Choice { kind: 2, thread: 0 };
+        assert_eq!(reason(pool.choose(&table, no_kind)), Reason::Kind);
+        assert_eq!(reason(pool.step(&table, 1)), Reason::Thread);
+        assert_eq!(reason(pool.promote(&table, 0)), Reason::Promoted);
+        assert_eq!(pool.which(&table), Ok(None));
+        let (made, answer) = pool.schedule(&table, &[Choice::step(0), Choice::step(0)]);
+        assert_eq!((made, reason(answer)), (0, Reason::Overflow));
+        assert_eq!(reason(pool.beat(&table, pace, 0)), Reason::Overflow);
+        let (made, answer) = pool.run(&table, pace, &[0, 0]);
+        assert_eq!(
+            (made, reason(answer)),
+            (
+                Ran {
+                    steps: 0,
+                    promotions: 0
+                },
+                Reason::Overflow
+            )
+        );
+        assert_eq!(pool, fresh);
+        assert_eq!(pool.values(&table), Ok(None));
+    }
 }
 
 #[test]
@@ -659,7 +730,7 @@ fn words_of_another_number() {
 #[test]
 fn numbers_by_name() {
     let reasons: Vec<u8> = Reason::ALL.iter().map(|r| r.number()).collect();
-    assert_eq!(reasons, (1..=28).collect::<Vec<u8>>());
+    assert_eq!(reasons, (1..=29).collect::<Vec<u8>>());
     let rules: Vec<u8> = Rule::ALL.iter().map(|&rule| rule.into()).collect();
     assert_eq!(rules, (1..=10).collect::<Vec<u8>>());
     for &reason in Reason::ALL {
@@ -668,7 +739,7 @@ fn numbers_by_name() {
     for &rule in Rule::ALL {
         assert_eq!(Rule::try_from(rule.number()), Ok(rule));
     }
-    assert_eq!(Reason::try_from(29), Err(Unknown(29)));
+    assert_eq!(Reason::try_from(30), Err(Unknown(30)));
     assert_eq!(Rule::try_from(0), Err(Unknown(0)));
     assert_eq!(Kind::try_from(1), Ok(Kind::Promote));
     assert_eq!(Choice::new(Kind::Promote, 3), Choice { kind: 1, thread: 3 });

@@ -72,6 +72,9 @@ impl No {
 
     // a listing
     pub const LISTING: u8 = 28;
+
+    // a step whose expression overflows
+    pub const OVERFLOW: u8 = 29;
 }
 
 // The rules of figure 3.

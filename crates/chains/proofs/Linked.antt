@@ -2,6 +2,7 @@
 -- that, of any program and any threads, and answers 18 only where a chain needs more frames than a thread can have.
 use Prim.Native.Nat.{ℕ, zero, suc, _<_}
 use mathlib.Core.Path.{_≡_, refl, subst}
+use mathlib.Core.Logic.{_≢_}
 use mathlib.Core.Bool.{Bool, true, false, cond}
 use mathlib.Core.Option.{Option, none, some, Option·map}
 use mathlib.Core.List.{List, [], _∷_, _++_}
@@ -20,7 +21,7 @@ use Rattle.model.specs.Frames.{lookAll, eval, bind, bindAll, goTo, deque, enter
 use Rattle.model.specs.Rules
 use Rattle.model.specs.Rules.{Act, by, acts, act, Result, Promotion, choice}
 use Rattle.model.proofs.Facts.{none-some, at-below, ltb-false}
-use Rattle.model.proofs.Kept.{OnSome, on-bind, on-is, on-when}
+use Rattle.model.proofs.Kept.{OnSome, on-bind, on-is, on-when, on-carry}
 use Rattle.chains.specs.Chains.{Calls, Chain, Needs}
 use Rattle.chains.specs.Roomy.{oldestFunction, Deeper}
 use Rattle.chains.proofs.Steps.{chain-append}
@@ -80,9 +81,9 @@ unfolding callee begin
 callee-runs P g v̄ =
     on-bind (Runs g) (getElem? P g) _ λ G _. on-when (Runs g) (eqb (G .signature .parameters) (length v̄)) _ λ _. refl
 
--- what a newest frame does next: it stays in its function, or begins one that its function calls; a refusal is 19
+-- what a newest frame does next: it stays in its function, or begins one that its function calls; a refusal is not 18
 abbrev Does : Program → Frame → Act → Type 0
-Does P k (Act.refuse n) = n ≡ No.stuck
+Does P k (Act.refuse n) = n ≢ No.frames
 Does P k (Act.stay rule l) = Runs (k .function) l
 Does P k (Act.push l m) = Runs (k .function) l × Calls P (k .function) (m .function)
 Does P k (Act.pop v̄) = Unit {0}
@@ -91,12 +92,12 @@ Does P k (Act.join l c) = Runs (k .function) l
 module _ (P : Program) (k : Frame) where
   does-by : (rule : ℕ) (o : Option Frame) → OnSome (Runs (k .function)) o → Does P k (by rule o)
   unfolding by
-  does-by rule none h = refl
+  does-by rule none h = omega arith
   does-by rule (some l) h = h
 
   does-acts : (o : Option Act) → OnSome (Does P k) o → Does P k (acts o)
   unfolding acts
-  does-acts none h = refl
+  does-acts none h = omega arith
   does-acts (some a) h = h
 
   does-branch : (b c : ℕ) (z : Bool) → Does P k (Rules.branch P k b c z)
@@ -125,7 +126,7 @@ module _ (P : Program) (k : Frame) where
   does-transfer e (Transfer.goto b x̄) q =
       does-by No.goto _ (on-bind (Runs (k .function)) (lookAll k x̄) _ λ v̄ _. enter-runs P k b v̄)
   does-transfer e (Transfer.if m b c) q =
-      does-acts _ (on-bind (Does P k) (eval k m) _ λ v _. does-branch b c (same v (pos 0)))
+      does-acts _ (on-bind (Does P k) (eval k m) _ λ w _. on-carry (Does P k) w _ (omega arith) λ v _. does-branch b c (same v (pos 0)))
   does-transfer e (Transfer.call g x̄ b) q =
       does-acts _
       (on-bind (Does P k) (lookAll k x̄) _ λ v̄ _.
@@ -145,12 +146,13 @@ module _ (P : Program) (k : Frame) where
       (on-bind (Does P k) (unsnoc (k .calls)) _ λ I _. does-closing b c (I .front) (ltb (k .promoted) (length (k .calls))))
 
   does : Does P k (act P k)
-  unfolding act Rules.coming Rules.stmt goTo bind
+  unfolding act Rules.coming Rules.stmt Rules.assign goTo bind
   does = does-acts _ (on-bind (Does P k) (blockOf P k (k .block)) _ λ B e. coming B e (getElem? (B .code) (k .done)))
     where
       coming : (B : Block) → blockOf P k (k .block) ≡ some B → (o : Option Statement) → Does P k (Rules.coming P k B o)
       coming B e none = does-transfer e (B .transfer) refl
-      coming B e (some x) = does-by No.stmt _ (on-bind (Runs (k .function)) (eval k (x .source)) _ λ v _. refl)
+      coming B e (some x) =
+          does-acts _ (on-bind (Does P k) (eval k (x .source)) _ λ w _. on-carry (Does P k) w _ (omega arith) λ v _. refl)
 
 -- what a choice makes of linked threads
 abbrev pub Keeps : Program → Result → Type 0
@@ -184,7 +186,7 @@ module _ (P : Program) where
 
     apply-keeps : (ts : List Thread) (a : Act) → Does P (t .newest) a → Each (Linked P) ts → Keeps P (Rules.apply P t ts a)
     unfolding Rules.apply
-    apply-keeps ts (Act.refuse n) d hs = λ e. absurd (omega arith)
+    apply-keeps ts (Act.refuse n) d hs = λ e. absurd (d e)
     apply-keeps ts (Act.stay rule k) d hs = (rw d h, hs)
     apply-keeps ts (Act.push k l) (r, c) hs = go (ltb (length (frames t)) mostFrames) refl (rw r (c, h))
       where

@@ -14,7 +14,7 @@ use Rattle.model.specs.Calls as Calls
 use Rattle.model.specs.Calls.{read, check}
 use Rattle.model.proofs.Accepted.{check-wf}
 use Rattle.tokens.specs.Purses.{Repursed}
-use Rattle.safety.specs.NeverJams.{Call, ofCall, Returned, CanStep, OutOfFrames, Moves, Stands}
+use Rattle.safety.specs.NeverJams.{Call, ofCall, Returned, CanStep, OutOfFrames, Overflows, Moves, Stands}
 use Rattle.safety.proofs.Schedules.{finally-kept, call-each, calls-each}
 use Rattle.safety.proofs.Theorem.{demand3, now, waiting-moves}
 use Rattle.chains.specs.Chains.{Deepest}
@@ -70,22 +70,23 @@ module _ (s : List ℕ) (d : ℕ) (e : depth s ≡ Answer.given d) where
         unfolding NotFull numberOf
         not-full o = held-room held-now d deep l 0 (o .thread) (Refusal.plain No.frames) (o .gets) refl
 
-        steps : Moves s (now s ws cs) → CanStep s (now s ws cs)
-        steps (inl c) = c
-        steps (inr o) = absurd (not-full o)
+        roomy-moves : Moves s (now s ws cs) → CanStep s (now s ws cs) ⊎ Overflows s (now s ws cs)
+        roomy-moves (inl c) = inl c
+        roomy-moves (inr (inl o)) = absurd (not-full o)
+        roomy-moves (inr (inr v)) = inr v
 
-        -- main has returned, or some thread can step
-        pub now-stands : Returned s (now s ws cs) ⊎ CanStep s (now s ws cs)
+        -- main has returned, or some thread can step or overflows
+        pub now-stands : Returned s (now s ws cs) ⊎ (CanStep s (now s ws cs) ⊎ Overflows s (now s ws cs))
         now-stands = go (demand3 s ws accepted n .safe cs .stands)
           where
-            go : Stands s (now s ws cs) → Returned s (now s ws cs) ⊎ CanStep s (now s ws cs)
+            go : Stands s (now s ws cs) → Returned s (now s ws cs) ⊎ (CanStep s (now s ws cs) ⊎ Overflows s (now s ws cs))
             go (inl r) = inl r
-            go (inr m) = inr (steps m)
+            go (inr m) = inr (roomy-moves m)
 
-        -- where the step of a thread waits (17), some thread can step
+        -- where the step of a thread waits (17), some thread can step or overflows
         pub waiting-steps : (i : ℕ) → Calls.choose s (now s ws cs) 0 i .answer ≡ Answer.refused (Refusal.plain No.waits) →
-            CanStep s (now s ws cs)
-        waiting-steps i w = steps (waiting-moves s ws accepted n cs i w)
+            CanStep s (now s ws cs) ⊎ Overflows s (now s ws cs)
+        waiting-steps i w = roomy-moves (waiting-moves s ws accepted n cs i w)
 
 -- no table of depth 8 or less ever runs out of frames
 pub never-full : Depth

@@ -13,7 +13,7 @@ use Rattle.model.specs.Syntax.{Program}
 use Rattle.model.specs.Pool.{Frame, mostFrames, poolWords, frames}
 use Rattle.model.specs.Calls as Calls
 use Rattle.model.specs.Calls.{Lent, lent, read}
-use Rattle.safety.specs.NeverJams.{Call, Put, choices, finally, Returned, CanStep}
+use Rattle.safety.specs.NeverJams.{Call, Put, choices, finally, Returned, CanStep, Overflows}
 use Rattle.chains.specs.Chains.{Needs}
 use Rattle.chains.specs.Depth.{depth}
 
@@ -29,13 +29,13 @@ pub record Few (s : List ℕ) (d : ℕ) (ws : List ℤ) : Type 0 where
   pub few : Each (λ t. length (frames t) ≤ d) (lends .pool)
 
 -- the claim, about the whole list of calls put from the words ws on: no thread ever has more than d frames, in the words that each
--- choice is put with and in those left; and where d is at most 8, no choice is answered 18, and main has returned or some thread can
--- step
+-- choice is put with and in those left; and where d is at most 8, no choice is answered 18, and main has returned, or some thread can
+-- step or overflows
 pub record Roomy (s : List ℕ) (d : ℕ) (ws : List ℤ) (cs : List Call) : Type 0 where
   pub ever : Each (λ p. Few s d (p .words)) (choices s ws cs)
   pub after : Few s d (finally s ws cs)
   pub answered : d ≤ mostFrames → Each (NotFull s) (choices s ws cs)
-  pub stands : d ≤ mostFrames → Returned s (finally s ws cs) ⊎ CanStep s (finally s ws cs)
+  pub stands : d ≤ mostFrames → Returned s (finally s ws cs) ⊎ (CanStep s (finally s ws cs) ⊎ Overflows s (finally s ws cs))
 
 -- for every table with a depth, every 1,689 words lent to the start, and every list of calls after it
 pub record NeverFull (s : List ℕ) (d : ℕ) (ws : List ℤ) : Type 0 where

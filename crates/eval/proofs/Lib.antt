@@ -1,4 +1,5 @@
 pub mod Leaves
+pub mod Working
 pub mod Buffers
 pub mod Lists
 pub mod Binds

@@ -17,11 +17,11 @@ use Rattle.model.specs.Pool as Pool
 use Rattle.model.specs.Pool.{temporaries}
 use Rattle.model.specs.Frames as Frames
 use Rattle.model.specs.Frames.{look, lookAll, bind, bindAll}
-use Rattle.eval.specs.declared.Evaluated.{Evaluated}
-use Rattle.eval.specs.declared.Evaluated.the-variants.{Value, Unbound}
+use Rattle.eval.specs.declared.Operand.{Operand}
+use Rattle.eval.specs.declared.Operand.the-variants.{Value, Unbound}
 use Rattle.code.specs.Bytes.{byteAt, past}
 use Rattle.code.specs.Code.{run, countAt, argumentsAt}
-use Rattle.eval.specs.Given.{evaluatedAs, boundPart, filled, Looks}
+use Rattle.eval.specs.Given.{operandAs, boundPart, filled, Looks}
 use Rattle.code.proofs.Ends.{count-le}
 use Rattle.eval.proofs.Leaves.{none-is, value-is}
 use Rattle.eval.proofs.Buffers.{bound-cons, bound-none, filled-is}
@@ -84,8 +84,8 @@ module _ (k : Pool.Frame) where
           back = refl;
         }
 
-    pub read-goes : (out : List ℤ) (p i : ℕ) (r : Evaluated) {x q : ℕ} {v : ℤ} → Read out p i → i < n → x ≡ byteAt s p → q ≡ past p 1
-        → r ≡ evaluatedAs (look k x) → r ≡ Value v → SFits w32 v → Read (set out i (toZ w32 (ofZ w32 v))) q (i + 1)
+    pub read-goes : (out : List ℤ) (p i : ℕ) (r : Operand) {x q : ℕ} {v : ℤ} → Read out p i → i < n → x ≡ byteAt s p → q ≡ past p 1
+        → r ≡ operandAs (look k x) → r ≡ Value v → SFits w32 v → Read (set out i (toZ w32 (ofZ w32 v))) q (i + 1)
     read-goes out p i r {v = v} h l e₁ e₂ e₃ t f =
         let some-v : look k (byteAt s p) ≡ some v = ap (look k) (sym e₁) ∙ value-is r _ e₃ t in
         let rest : List ℕ = run s (past p 1) (n - (i + 1)) in
@@ -116,7 +116,7 @@ module _ (k : Pool.Frame) where
         }
 
     module _ (out : List ℤ) (p i : ℕ) (h : Read out p i) where
-      read-stops : (r : Evaluated) {x : ℕ} → i < n → x ≡ byteAt s p → r ≡ evaluatedAs (look k x) → r ≡ Unbound
+      read-stops : (r : Operand) {x : ℕ} → i < n → x ≡ byteAt s p → r ≡ operandAs (look k x) → r ≡ Unbound
           → (none ≡ lookAll k (run s p₀ n)) × (out ≡ filled k (run s p₀ n) out₀)
       read-stops r l e₁ e₂ t =
           let none-v : look k (byteAt s p) ≡ none = ap (look k) (sym e₁) ∙ none-is r _ e₂ t in
@@ -153,7 +153,7 @@ arguments-are s at e d = rw (e, d)
 
 module _ (k : Pool.Frame) (s : List ℕ) (at : ℕ) {p₀ n : ℕ} {out₀ : List ℤ} (out : List ℤ) (p i : ℕ) (e : p₀ ≡ past at 1)
     (d : n ≡ countAt s at) (h : Read k s p₀ n out₀ out p i) where
-  pub arguments-unbound : {x : ℕ} (r : Evaluated) → i < n → x ≡ byteAt s p → r ≡ evaluatedAs (look k x) → r ≡ Unbound
+  pub arguments-unbound : {x : ℕ} (r : Operand) → i < n → x ≡ byteAt s p → r ≡ operandAs (look k x) → r ≡ Unbound
       → Looks k s at out₀ false out
   arguments-unbound r l e₁ e₂ t =
       let (q, w) = read-stops k s p₀ n out₀ out p i h r l e₁ e₂ t in

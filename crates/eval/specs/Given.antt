@@ -7,14 +7,17 @@ use mathlib.Core.List.{List, [], _∷_}
 use lib.IntN.{ℤ, pos}
 use lib.ListN.{length, take}
 use Rattle.model.specs.Values as Values
+use Rattle.model.specs.Values.{Worked}
 use Rattle.model.specs.Lists.{Each, pad}
 use Rattle.model.specs.Pool.{Frame, temporaries, begin}
 use Rattle.model.specs.Frames.{look, lookAll, bindAll}
 use Rattle.words.specs.Runs.{pasted}
 use Rattle.pool.specs.InPlace.{FrameHeld, Became, Bound}
 use Rattle.code.specs.Code.{most, countAt, argumentsAt}
+use Rattle.eval.specs.declared.Operand.{Operand}
+use Rattle.eval.specs.declared.Operand.the-variants as operand
 use Rattle.eval.specs.declared.Evaluated.{Evaluated}
-use Rattle.eval.specs.declared.Evaluated.the-variants.{Value, Unbound}
+use Rattle.eval.specs.declared.Evaluated.the-variants.{Value, Overflow, Unbound}
 use Rattle.eval.specs.declared.Values.{Values}
 use Rattle.eval.specs.declared.Looked.{Looked}
 
@@ -23,10 +26,15 @@ abbrev pub optional : {A : Type 0} → Bool → A → Option A
 optional true a = some a
 optional false a = none
 
--- what evaluation comes to, as the code has it
-unfoldable pub evaluatedAs : Option ℤ → Evaluated
+-- what an operand and an expression come to, as the code has it
+unfoldable pub operandAs : Option ℤ → Operand
+operandAs none = operand.Unbound
+operandAs (some v) = operand.Value v
+
+unfoldable pub evaluatedAs : Option Worked → Evaluated
 evaluatedAs none = Unbound
-evaluatedAs (some v) = Value v
+evaluatedAs (some (Worked.value v)) = Value v
+evaluatedAs (some Worked.overflow) = Overflow
 
 abbrev pub valuesOf : Values → List ℤ
 valuesOf v = take (v .count) (v .at)
@@ -64,12 +72,12 @@ pub record Looks (m : Frame) (s : List ℕ) (at : ℕ) (out : List ℤ) (r : Boo
   pub is : lookedIn s at r out′ ≡ lookAll m (argumentsAt s at)
   pub left : out′ ≡ filled m (argumentsAt s at) out
 
--- the value of an expression of a kind, from those of its atoms
-unfoldable pub applied : ℕ → ℤ → ℤ → ℤ
-applied zero m n = m
+-- what an expression of a kind comes to, from the values of its atoms
+unfoldable pub applied : ℕ → ℤ → ℤ → Worked
+applied zero m n = Worked.value m
 applied (suc zero) m n = Values.minus m
 applied (suc (suc zero)) m n = Values.plus m n
-applied (suc (suc (suc kind))) m n = Values.less m n
+applied (suc (suc (suc kind))) m n = Worked.value (Values.less m n)
 
 -- the frame at k has a temporary bound; what is no temporary changes nothing
 pub record Binds (ws : List ℤ) (k x : ℕ) (v : ℤ) (ws′ : List ℤ) : Type 0 where

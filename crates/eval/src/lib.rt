@@ -4,15 +4,24 @@ use pool::Pool;
 ghost use mathlib.Core.Path.{_≡_};
 ghost use Prim.Native.Nat.{_+_, _≤_};
 ghost use lib.ListN.{length};
+ghost use mathlib.Core.Option.{some};
+ghost use Rattle.model.specs.Values as Model;
 ghost use Rattle.model.specs.Frames as Frames;
 ghost use Rattle.model.specs.Pool.{frameWords};
 ghost use Rattle.pool.specs.InPlace.{frameAt};
 ghost use Rattle.code.specs.Code.{most, atomAt, expressionAt};
-ghost use Rattle.eval.specs.Given.{evaluatedAs, Looks, applied, Binds, BindsAll, Begins};
+ghost use Rattle.eval.specs.Given.{operandAs, evaluatedAs, Looks, applied, Binds, BindsAll, Begins};
 
-// What evaluation comes to: a value, or a temporary is not bound.
+// An operand: a value, or a temporary that is not bound.
+enum Operand {
+    Value(i32),
+    Unbound,
+}
+
+// What working out an expression comes to: a value, an overflow, or a temporary of it is not bound.
 pub enum Evaluated {
     Value(i32),
+    Overflow,
     Unbound,
 }
 
@@ -33,47 +42,63 @@ pub struct Looked {
 }
 
 // The value of a bound temporary of the frame at k.
-fn look(ws: &[i32], k: usize, x: u8) -> Evaluated
+fn look(ws: &[i32], k: usize, x: u8) -> Operand
     requires { ⌜ k + frameWords ≤ length (now ws) ⌝ }
-    ensures { λ r. ⌜ r ≡ evaluatedAs (Frames.look (frameAt (now (ws .entry)) k) x) ⌝ }
+    ensures { λ r. ⌜ r ≡ operandAs (Frames.look (frameAt (now (ws .entry)) k) x) ⌝ }
 {
     if (x as usize) < Pool::TEMPORARIES {
         if (pool::bound(ws, k) >> x) % 2 == 1 {
-            return Evaluated::Value(pool::value(ws, k, x));
+            return Operand::Value(pool::value(ws, k, x));
         }
     }
-    Evaluated::Unbound
+    Operand::Unbound
 }
 
 // An atom's value.
-fn atom(s: &[u8], at: usize, ws: &[i32], k: usize) -> Evaluated
+fn atom(s: &[u8], at: usize, ws: &[i32], k: usize) -> Operand
     requires { ⌜ k + frameWords ≤ length (now ws) ⌝ }
-    ensures { λ r. ⌜ r ≡ evaluatedAs (Frames.evalAtom (frameAt (now (ws .entry)) k) (atomAt (now (s .entry)) at)) ⌝ }
+    ensures { λ r. ⌜ r ≡ operandAs (Frames.evalAtom (frameAt (now (ws .entry)) k) (atomAt (now (s .entry)) at)) ⌝ }
 {
     let first = code::after(at, 1);
     if code::byte(s, at) == 0 {
-        return Evaluated::Value(code::value(s, first));
+        return Operand::Value(code::value(s, first));
     }
     look(ws, k, code::byte(s, first))
 }
 
-// The value of an expression of a kind, from those of its atoms: all arithmetic on values is here.
-fn apply(kind: u8, m: i32, n: i32) -> i32
-    ensures { λ r. ⌜ r ≡ applied kind m n ⌝ }
+// A number as a value, if it fits in 32 bits.
+fn worked(z: i64) -> Evaluated
+    ensures { λ r. ⌜ r ≡ evaluatedAs (some (Model.worked z)) ⌝ }
 {
-    if kind == 0 {
-        return m;
+    if z < -2147483648 {
+        return Evaluated::Overflow;
     }
-    if kind == 1 {
-        return words::negated(m);
+    if z < 2147483648 {
+        return Evaluated::Value(z as i32);
     }
-    if kind == 2 {
-        return words::wrapping_add(m, n);
-    }
-    if m < n { 1 } else { 0 }
+    Evaluated::Overflow
 }
 
-// An expression's value.
+// What an expression of a kind comes to, from the values of its atoms: all arithmetic on values is here, and is exact in 64 bits.
+fn apply(kind: u8, m: i32, n: i32) -> Evaluated
+    ensures { λ r. ⌜ r ≡ evaluatedAs (some (applied kind m n)) ⌝ }
+{
+    if kind == 0 {
+        return Evaluated::Value(m);
+    }
+    if kind == 1 {
+        return worked(0 - (m as i64));
+    }
+    if kind == 2 {
+        return worked((m as i64) + (n as i64));
+    }
+    if m < n {
+        return Evaluated::Value(1);
+    }
+    Evaluated::Value(0)
+}
+
+// What an expression comes to.
 pub fn eval(s: &[u8], at: usize, ws: &[i32], k: usize) -> Evaluated
     requires { ⌜ k + frameWords ≤ length (now ws) ⌝ }
     ensures { λ r. ⌜ r ≡ evaluatedAs (Frames.eval (frameAt (now (ws .entry)) k) (expressionAt (now (s .entry)) at)) ⌝ }
@@ -81,17 +106,17 @@ pub fn eval(s: &[u8], at: usize, ws: &[i32], k: usize) -> Evaluated
     let kind = code::byte(s, at);
     let first = code::after(at, 1);
     let m = match atom(s, first, ws, k) {
-        Evaluated::Value(m) => m,
-        Evaluated::Unbound => return Evaluated::Unbound,
+        Operand::Value(m) => m,
+        Operand::Unbound => return Evaluated::Unbound,
     };
     if code::operands(kind as usize) != 2 {
-        return Evaluated::Value(apply(kind, m, 0));
+        return apply(kind, m, 0);
     }
     let n = match atom(s, code::atom_end(s, first), ws, k) {
-        Evaluated::Value(n) => n,
-        Evaluated::Unbound => return Evaluated::Unbound,
+        Operand::Value(n) => n,
+        Operand::Unbound => return Evaluated::Unbound,
     };
-    Evaluated::Value(apply(kind, m, n))
+    apply(kind, m, n)
 }
 
 // The values of the temporaries of an argument list, put into a buffer, if all are bound; those before the first that is not.
@@ -104,8 +129,8 @@ pub fn look_all(s: &[u8], at: usize, ws: &[i32], k: usize, out: &mut [i32]) -> b
     let mut i: u8 = 0;
     while i < n {
         let v = match look(ws, k, code::byte(s, p)) {
-            Evaluated::Value(v) => v,
-            Evaluated::Unbound => return false,
+            Operand::Value(v) => v,
+            Operand::Unbound => return false,
         };
         let j = i as usize;
         out[j] = v;

@@ -63,9 +63,12 @@ steps n ms = record { move = Move.runs n; makes = ms }
 abbrev promotes : ℕ → Turn
 promotes i = record { move = Move.promotion i; makes = by i No.promote ∷ [] }
 
--- B with a statement before its spoin; and with a goto to a block that is missing in its place
+-- B with a statement before its spoin; with one there that negates the least value; and with a goto to a missing block for the spoin
 abbrev busy : List ℕ
 busy = set (take 25 B ++ 0x01 ∷ 0x00 ∷ 0x00 ∷ 0x00 ∷ 0x00 ∷ 0x00 ∷ 0x00 ∷ 0x00 ∷ drop 26 B) 3 0x4F
+
+abbrev bursting : List ℕ
+bursting = set (set busy 27 0x01) 29 0x80
 
 abbrev stuck : List ℕ
 stuck = set (set (set B 26 0x00) 27 0x09) 28 0x00
@@ -83,6 +86,8 @@ rows =
     played busy (steps 1 (of 0 (No.spork ∷ [])) ∷ promotes 0 ∷ steps 9 (by 0 No.stmt ∷ by 1 No.stmt ∷ by 0 No.prom ∷ []) ∷ []) ∷
     -- thread 0 is stuck
     played stuck (steps 9 (of 0 (No.spork ∷ [])) ∷ promotes 0 ∷ steps 9 (of 1 (No.stmt ∷ [])) ∷ []) ∷
+    -- it overflows
+    played bursting (steps 9 (of 0 (No.spork ∷ [])) ∷ promotes 0 ∷ steps 9 (of 1 (No.stmt ∷ [])) ∷ []) ∷
     -- it is at a call with eight frames
     played recursive (steps 9 (of 0 (No.call ∷ No.call ∷ No.call ∷ No.call ∷ No.call ∷ No.call ∷ No.call ∷ [])) ∷ []) ∷
     -- examples/first.in

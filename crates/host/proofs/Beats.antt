@@ -11,7 +11,7 @@ use lib.Dec.{lit≤}
 use lib.IntN.{ℤ}
 use lib.ListN.{length, getD, getElem?}
 use Rattle.model.specs.Numbers as No
-use Rattle.model.specs.Numbers.{Within, RuleOf}
+use Rattle.model.specs.Numbers.{Within, RuleOf, StepRefusal}
 use Rattle.model.specs.Answers.{Refusal, Answer, with}
 use Rattle.model.specs.Rules.{Result, choice}
 use Rattle.model.specs.Calls as Calls
@@ -35,7 +35,8 @@ use Rattle.host.specs.Contracts.{Choose, Beat, Run}
 use Rattle.host.specs.Laws.{refusalIn, beatIn, BeforeBeat, OfBeat, Pace, Unpaced, BeatTells, StopsAtBeat, RunTells}
 use Rattle.host.proofs.Codes.{Bare, Fits, ruled, done-code, number-code, beat-code, given-is, given-value, refused-is, small}
 use Rattle.host.proofs.Codes.{refusal-in, gave, refused}
-use Rattle.host.proofs.Refusals.{lent-fits, lent-told, pool-below, done-in, done-gave, done-refused}
+use Rattle.host.proofs.Refusals.{lent-fits, lent-told, pool-below, chosen-fits, chosen-number, chosen-above, step-chosen, step-told}
+use Rattle.host.proofs.Refusals.{done-in, done-gave, done-refused}
 
 -- what a beat or a run is refused before any step: as every call on a pool, or 27
 data OfLentAt (s : List ℕ) : Refusal → Type 0 where
@@ -60,7 +61,7 @@ record Small (b : Beats.Beat) : Type 0 where
 
 data Refuses (s : List ℕ) (ws : List ℤ) (N C : ℕ) : Refusal → Type 0 where
   before : {q : Refusal} → OfLentAt s q → lentAt s ws N C ≡ Answer.refused q → Refuses s ws N C q
-  asStep : {n : ℕ} → Within No.thread No.stuck n → Refuses s ws N C (Refusal.plain n)
+  asStep : {n : ℕ} → StepRefusal n → Refuses s ws N C (Refusal.plain n)
 
 module _ (s : List ℕ) (ws : List ℤ) (i N C : ℕ) where
   beat-can : Can Small (Refuses s ws N C) (Beats.beat s ws i N C .answer)
@@ -105,11 +106,11 @@ lent-at-told OfLentAt.pace = inr refl
 
 beat-fits : {s : List ℕ} {ws : List ℤ} {N C : ℕ} (q : Refusal) → Refuses s ws N C q → Fits q
 beat-fits q (Refuses.before h e) = lent-at-fits q h
-beat-fits _ (Refuses.asStep w) = Bare.ofCall (omega arith, omega arith)
+beat-fits _ (Refuses.asStep w) = chosen-fits (step-chosen w)
 
 beat-told : {s : List ℕ} {ws : List ℤ} {N C : ℕ} {q : Refusal} → Refuses s ws N C q → OfBeat s (codeOf q)
 beat-told (Refuses.before h e) = inl (lent-at-told h)
-beat-told (Refuses.asStep w) = inr (omega arith, omega arith)
+beat-told (Refuses.asStep w) = inr (step-told w)
 
 -- what a beat is given has room
 beat-room : (b : Beats.Beat) → Small b → ruled b < 2 ^ 32
@@ -194,7 +195,7 @@ module _ (s : List ℕ) (ws : List ℤ) (kind i q : ℕ) (w : List ℤ) (m : Cho
       go : (x : Result) → ChoiceOf kind x → q ≡ asNumber (Calls.made ws x .answer) → No.kind ≤ number q
       go (Result.made rule p) h n =
           true-false (isGiven q) (rw (n, number-code .gives rule) (given-is rule (small-rule h))) g
-      go (Result.refused k) h n = rw (n, number-code .refuses (Refusal.plain k)) (omega arith)
+      go (Result.refused k) h n = rw (n, number-code .refuses (Refusal.plain k), chosen-number h) (chosen-above h)
 
 unpaced-law : (s : List ℕ) (ws : List ℤ) (n c r : ℕ) → ¬ Pace n c → ((q : Refusal) → lentAt s ws n c ≡ Answer.refused q → r ≡ codeOf q) →
     Unpaced s ws r
@@ -284,7 +285,7 @@ beat-gave s ws thread n c r ws′ g e =
 -- it is by the words that they left
 data OfRun (s : List ℕ) (ws : List ℤ) (N C : ℕ) (is : List ℕ) : Refusal → ℕ → ℕ → List ℤ → Type 0 where
   before : {q : Refusal} → OfLentAt s q → lentAt s ws N C ≡ Answer.refused q → OfRun s ws N C is q 0 0 ws
-  stopped : {n steps made : ℕ} {ws′ : List ℤ} → Within No.thread No.stuck n → (i : ℕ) → getElem? is steps ≡ some i →
+  stopped : {n steps made : ℕ} {ws′ : List ℤ} → StepRefusal n → (i : ℕ) → getElem? is steps ≡ some i →
       Beats.beat s ws′ i N C .answer ≡ Answer.refused (Refusal.plain n) → OfRun s ws N C is (Refusal.plain n) steps made ws′
 
 abbrev RunCan : List ℕ → List ℤ → ℕ → ℕ → List ℕ → Told → Type 0
@@ -333,17 +334,17 @@ run-can s N C (i ∷ is) ws =
 run-fits : {s : List ℕ} {ws ws′ : List ℤ} {N C : ℕ} {is : List ℕ} {steps made : ℕ} (q : Refusal) → OfRun s ws N C is q steps made ws′ →
     Fits q
 run-fits q (OfRun.before h e) = lent-at-fits q h
-run-fits _ (OfRun.stopped w i there e) = Bare.ofCall (omega arith, omega arith)
+run-fits _ (OfRun.stopped w i there e) = chosen-fits (step-chosen w)
 
 record Stopped (s : List ℕ) (ws : List ℤ) (N C : ℕ) (is : List ℕ) (r steps made : ℕ) (ws′ : List ℤ) : Type 0 where
   beat : OfBeat s r
   before : BeforeBeat s r → (steps ≡ 0) × (made ≡ 0) × (ws′ ≡ ws)
-  stops : Within No.thread No.stuck (number r) → StopsAtBeat s ws′ N C is r steps
+  stops : StepRefusal (number r) → StopsAtBeat s ws′ N C is r steps
 
-before-beat : {A : Type 0} {s : List ℕ} {r : ℕ} → BeforeBeat s r → Within No.thread No.stuck (number r) → A
-before-beat (inl (inl t)) w = absurd (omega (arith, t .numbered .1))
-before-beat (inl (inr h)) w = absurd (omega arith)
-before-beat (inr e) w = absurd (omega arith)
+before-beat : {A : Type 0} {s : List ℕ} {r : ℕ} → BeforeBeat s r → StepRefusal (number r) → A
+before-beat (inl h) w = absurd (omega (arith, pool-below h, chosen-above (step-chosen w)))
+before-beat (inr e) (inl w) = absurd (omega arith)
+before-beat (inr e) (inr w) = absurd (omega arith)
 
 run-told : {s : List ℕ} {ws ws′ : List ℤ} {N C : ℕ} {is : List ℕ} {steps made : ℕ} {q : Refusal} → OfRun s ws N C is q steps made ws′ →
     Stopped s ws N C is (codeOf q) steps made ws′
@@ -351,8 +352,8 @@ run-told (OfRun.before h e) =
     record { beat = inl (lent-at-told h); before = λ _. (refl, refl, refl); stops = λ w. before-beat (lent-at-told h) w }
 run-told (OfRun.stopped w i there e) =
     record {
-      beat = inr (omega arith, omega arith);
-      before = λ b. before-beat b (omega arith, omega arith);
+      beat = inr (step-told w);
+      before = λ b. before-beat b (step-told w);
       stops = λ _. record { thread = i; there = there; again = λ q w′ g. g .number ∙ ap beatNumber e ∙ beat-code .refuses _ };
     }
 
@@ -396,7 +397,7 @@ module _ (s : List ℕ) (ws : List ℤ) (n c : ℕ) {l : Lent} (lends : lent s w
       go false p = let x : Answer.refused q ≡ Answer.refused (Refusal.plain No.pace) = sym e ∙ unpaced s ws n c l lends p in cc
 
   abbrev Stopping : ℕ → Type 0
-  Stopping r = (number r ≡ No.pace) ⊎ Within No.thread No.stuck (number r)
+  Stopping r = (number r ≡ No.pace) ⊎ StepRefusal (number r)
 
   pub beat-stopping : (thread r : ℕ) (ws′ : List ℤ) → Beat s ws thread n c r ws′ → isGiven r ≡ false → Stopping r
   beat-stopping thread r ws′ g e =
@@ -406,7 +407,7 @@ module _ (s : List ℕ) (ws : List ℤ) (n c : ℕ) {l : Lent} (lends : lent s w
     where
       go : {q : Refusal} → Refuses s ws n c q → Stopping (codeOf q)
       go (Refuses.before h x) = inl (ap (λ q. number (codeOf q)) (lent-refused x))
-      go (Refuses.asStep w) = inr (omega arith, omega arith)
+      go (Refuses.asStep w) = inr (step-told w)
 
   pub run-stopping : (threads : List ℕ) (r steps made : ℕ) (ws′ : List ℤ) → Run s ws n c threads r (steps ∷ made ∷ []) ws′ →
       isGiven r ≡ false → Stopping r
@@ -417,11 +418,11 @@ module _ (s : List ℕ) (ws : List ℤ) (n c : ℕ) {l : Lent} (lends : lent s w
     where
       go : {q : Refusal} {steps made : ℕ} {w : List ℤ} → OfRun s ws n c threads q steps made w → Stopping (codeOf q)
       go (OfRun.before h x) = inl (ap (λ q. number (codeOf q)) (lent-refused x))
-      go (OfRun.stopped w i there x) = inr (omega arith, omega arith)
+      go (OfRun.stopped w i there x) = inr (step-told w)
 
 -- a beat that is refused as a step is: the step, put in its place, is answered the same number
 pub beat-step : (s : List ℕ) (ws : List ℤ) (thread n c r : ℕ) (ws′ : List ℤ) → Beat s ws thread n c r ws′ → isGiven r ≡ false →
-    Within No.thread No.stuck (number r) → Choose s ws step thread r (Calls.choose s ws step thread .after)
+    StepRefusal (number r) → Choose s ws step thread r (Calls.choose s ws step thread .after)
 beat-step s ws thread n c r ws′ g e w = go (pace-or n c)
   where
     t : BeatTells s ws thread n c r ws′
@@ -433,7 +434,7 @@ beat-step s ws thread n c r ws′ g e w = go (pace-or n c)
 
 -- a run that stops at a beat: the step of its thread, put to the words left
 pub run-step : (s : List ℕ) (ws : List ℤ) (n c : ℕ) (threads : List ℕ) (r steps made : ℕ) (ws′ : List ℤ) →
-    Run s ws n c threads r (steps ∷ made ∷ []) ws′ → isGiven r ≡ false → Within No.thread No.stuck (number r) →
+    Run s ws n c threads r (steps ∷ made ∷ []) ws′ → isGiven r ≡ false → StepRefusal (number r) →
     (i : ℕ) × Choose s ws′ step i r (Calls.choose s ws′ step i .after)
 run-step s ws n c threads r steps made ws′ g e w =
     let S = run-law s ws n c threads r steps made ws′ g .stops e w in

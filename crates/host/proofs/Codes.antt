@@ -34,11 +34,11 @@ pub given-in : (v : ℕ) → v < 2 ^ 32 → answerIn (given v) ≡ Answer.given 
 unfolding answerIn
 given-in v h = rw (given-is v h, given-value v h)
 
--- the numbers of refusals without a place: 1, 2, 12 to 24 and 27
+-- the numbers of refusals without a place: 1, 2, 12 to 24, and 27 to 29
 pub data Bare (n : ℕ) : Type 0 where
   ofTable : Within 1 2 n → Bare n
   ofCall : Within 12 24 n → Bare n
-  ofLater : Within 27 28 n → Bare n
+  ofLater : Within 27 29 n → Bare n
 
 -- a refusal that a number has room for
 abbrev pub Fits : Refusal → Type 0
@@ -67,7 +67,10 @@ unplaced n (Bare.ofCall h) = (
 )
 unplaced n (Bare.ofLater h) = (
   ne-eqb n No.form (λ e. omega arith),
-  rw (right-false (leb No.main n) _ (lt-leb n No.nesting (omega arith)), right-false (leb No.unreached n) _ (lt-leb n No.impossible (omega arith))),
+  rw (
+    right-false (leb No.main n) _ (lt-leb n No.nesting (omega arith)),
+    right-false (leb No.unreached n) _ (lt-leb n No.impossible (omega arith)),
+  ),
 )
 
 is-placed : (n : ℕ) → Within 4 11 n ⊎ Within 25 26 n → (eqb n No.form ≡ false) × (placed n ≡ true)

@@ -9,9 +9,9 @@ use native.Mathlib.Omega.{arith}
 use lib.Dec.{eqb, leb, lit≤}
 use lib.IntN.{ℤ}
 use lib.ListN.{length, getD, getElem?, take, drop}
-use lib.Seq.{take-append-seam, drop-append-seam}
+use lib.Seq.{drop-append-seam}
 use Rattle.model.specs.Numbers as No
-use Rattle.model.specs.Numbers.{Within, RuleOf}
+use Rattle.model.specs.Numbers.{Within, RuleOf, RefusalOf}
 use Rattle.model.specs.Answers.{Refusal, Answer, numberOf, outcome, Wrote, put}
 use Rattle.model.specs.Syntax.{Function, Program}
 use Rattle.model.specs.Limits.{InFunction}
@@ -34,6 +34,7 @@ use Rattle.numbering.specs.Tidy.{tidy}
 use Rattle.numbering.specs.Means.{Tidies}
 use Rattle.numbering.proofs.Theorem.{tidy-means}
 use Rattle.inference.proofs.Theorem.{completion-means}
+use Rattle.overflows.proofs.Theorem.{naming}
 use Rattle.first.specs.Means.{Steps, Right}
 use Rattle.first.proofs.Means.{right}
 use Rattle.host.specs.Macros.{isGiven, value, number, block, function, step, noThread}
@@ -44,27 +45,32 @@ use Rattle.host.specs.Laws.{answerIn, threadIn, valuesIn, fresh, Placed,
 use Rattle.host.specs.Laws.{ReadTells, CheckTells, DepthTells, TidyTells, StartTells, ChooseTells, ScheduleTells, WhichTells}
 use Rattle.host.specs.Laws.{ValuesTells}
 use Rattle.host.proofs.Codes.{Bare, Fits, Gave, number-code, stepper-code, counted-code, thread, count}
-use Rattle.host.proofs.Codes.{given-in, refused-in, valued, tells, gave, refused}
+use Rattle.host.proofs.Codes.{plain-in, valued, tells, gave, refused}
 use Rattle.host.proofs.Tables.{table-fits, table-told}
-use Rattle.host.proofs.Refusals.{start-fits, start-told, lent-fits, lent-told, pool-below, done-in, done-gave, done-refused}
+use Rattle.host.proofs.Refusals.{start-fits, start-told, lent-fits, lent-told, pool-below, chosen-fits, chosen-number, chosen-above}
+use Rattle.host.proofs.Refusals.{done-in, done-gave, done-refused}
 use Rattle.host.proofs.Beats.{choose-first, beat-law, run-law}
 use Rattle.host.proofs.Completion.{complete-law}
 use Rattle.host.proofs.Written.{was-put, was-refused}
 use Rattle.host.proofs.Views.{listing-law}
-use Rattle.host.proofs.Macros.{given-read, read-given, read-refused, done-read, stopped-read, read-done}
+use Rattle.host.proofs.Macros.{given-read, refused-read, read-given, read-refused, done-read, stopped-read, read-done}
 
 -- what a choice can be refused fits into a number, and what the macros then read
-choice-fits : {s : List ℕ} (q : Refusal) → Numbers.OfChoice s q → Fits q
+choice-fits : {s : List ℕ} {kind : ℕ} (q : Refusal) → Numbers.OfChoice s kind q → Fits q
 choice-fits _ (Numbers.OfChoice.lends h) = lent-fits _ h
-choice-fits _ (Numbers.OfChoice.chosen w) = Bare.ofCall (omega arith, omega arith)
+choice-fits _ (Numbers.OfChoice.chosen w) = chosen-fits w
 
 wider : {s : List ℕ} {r : ℕ} → OfPool s r → OfChoice s r
 wider (inl h) = inl h
-wider (inr h) = inr (h .0, omega arith)
+wider (inr h) = inr (inl (h .0, omega arith))
 
-choice-told : {s : List ℕ} {q : Refusal} → Numbers.OfChoice s q → OfChoice s (codeOf q)
+chosen-told : {s : List ℕ} {kind n : ℕ} → RefusalOf kind n → OfChoice s (codeOf (Refusal.plain n))
+chosen-told (inl w) = inr (inl (omega arith, omega arith))
+chosen-told (inr e) = inr (inr (omega arith))
+
+choice-told : {s : List ℕ} {kind : ℕ} {q : Refusal} → Numbers.OfChoice s kind q → OfChoice s (codeOf q)
 choice-told (Numbers.OfChoice.lends h) = wider (lent-told h)
-choice-told (Numbers.OfChoice.chosen w) = inr (omega arith, omega arith)
+choice-told (Numbers.OfChoice.chosen w) = chosen-told w
 
 -- a fault's function and block are in the table
 record Lies (s : List ℕ) (P : Program) : Type 0 where
@@ -319,25 +325,31 @@ rule-room kind rule (inr h) = omega arith
 
 pub choose-law : (s : List ℕ) (ws : List ℤ) (kind thread r : ℕ) (ws′ : List ℤ) → Choose s ws kind thread r ws′ →
     ChooseTells s ws kind thread r ws′
+unfolding numberOf
 choose-law s ws kind thread r ws′ g =
     let a = Calls.choose s ws kind thread .answer in
-    let R = Numbers.OfChoice s in
+    let R = Numbers.OfChoice s kind in
     let can = choose-can s ws kind thread in
     let room = rule-room kind in
     let words : ws′ ≡ Calls.choose s ws kind thread .after = g .words in
+    let told = tells number-code (RuleOf kind) R room choice-fits a can ∙ valued-same a in
+    let names = naming s ws kind thread in
     rw (g .number)
     (record {
-      answers = tells number-code (RuleOf kind) R room choice-fits a can ∙ valued-same a;
+      answers = told;
       given = λ e. let v = gave number-code (RuleOf kind) R room choice-fits a can e in rw (v .told) (v .has);
       refused = λ e.
           let q = refused number-code (RuleOf kind) R room choice-fits a can e in
           (rw (q .told) (choice-told (q .has)), words ∙ choose-leaves s ws kind thread (q .is));
+      overflows = λ e n.
+          names .only (sym told ∙ refused-read _ e ∙ ap Answer.refused (plain-in _ No.overflow n (Bare.ofLater (lit≤ tt, lit≤ tt))));
+      named = λ z o. read-refused _ (told ∙ names .always z o);
     })
 
 -- a list of choices
 schedule-fits : {s : List ℕ} {ws ws′ : List ℤ} {cs : List Choice} {made : ℕ} (q : Refusal) → Numbers.OfSchedule s ws cs q made ws′ → Fits q
 schedule-fits _ (Numbers.OfSchedule.lends h) = lent-fits _ h
-schedule-fits _ (Numbers.OfSchedule.chosen w c there e) = Bare.ofCall (omega arith, omega arith)
+schedule-fits _ (Numbers.OfSchedule.chosen c w there e) = chosen-fits w
 
 record Stopped (s : List ℕ) (ws : List ℤ) (cs : List Choice) (r made : ℕ) (ws′ : List ℤ) : Type 0 where
   choice : OfChoice s r
@@ -350,10 +362,10 @@ unfolding asNumber
 schedule-told (Numbers.OfSchedule.lends h) =
     let p = lent-told h in
     record { choice = wider p; before = λ _. (refl, refl); stops = λ l. absurd (omega (arith, pool-below p)) }
-schedule-told (Numbers.OfSchedule.chosen w c there e) =
+schedule-told (Numbers.OfSchedule.chosen c w there e) =
     record {
-      choice = inr (omega arith, omega arith);
-      before = λ b. absurd (omega arith);
+      choice = chosen-told w;
+      before = λ b. absurd (omega (arith, chosen-number w, chosen-above w));
       stops = λ _. record { choice = c; there = there; again = λ q w′ g. g .number ∙ ap asNumber e };
     }
 

@@ -1,5 +1,5 @@
 -- The refusals of calls on words as numbers, and answers that give nothing more.
-use Prim.Native.Nat.{ℕ, _^_, _<_}
+use Prim.Native.Nat.{ℕ, _^_, _≤_, _<_}
 use mathlib.Core.Path.{_≡_, refl, _∙_, ap}
 use mathlib.Core.Logic.{_⊎_, inl, inr}
 use mathlib.Core.Bool.{true, false}
@@ -7,11 +7,12 @@ use mathlib.Core.List.{List}
 use native.Mathlib.Omega.{arith}
 use lib.Dec.{lit≤}
 use Rattle.model.specs.Numbers as No
+use Rattle.model.specs.Numbers.{StepRefusal, RefusalOf}
 use Rattle.model.specs.Answers.{Refusal, Answer, outcome}
 use Rattle.model.proofs.Numbers as Numbers
 use Rattle.model.proofs.Numbers.{Can}
 use Rattle.answers.specs.Coded.{codeOf}
-use Rattle.host.specs.Macros.{isGiven, number}
+use Rattle.host.specs.Macros.{isGiven, number, step}
 use Rattle.host.specs.Exports.{done}
 use Rattle.host.specs.Laws.{answerIn, OfTable, OfPool}
 use Rattle.host.proofs.Codes.{Bare, Fits, Gave, Refused, done-code, valued, tells, gave, refused}
@@ -38,6 +39,27 @@ lent-told Numbers.OfLent.pool = inr (lit≤ tt, lit≤ tt)
 pub pool-below : {s : List ℕ} {r : ℕ} → OfPool s r → number r < No.kind
 pool-below (inl h) = omega (arith, h .numbered .1)
 pool-below (inr h) = omega arith
+
+-- the refusals of a choice behind those, and of a step
+module _ {kind n : ℕ} where
+  pub chosen-fits : RefusalOf kind n → Bare n
+  chosen-fits (inl w) = Bare.ofCall (omega arith, omega arith)
+  chosen-fits (inr e) = Bare.ofLater (omega arith, omega arith)
+
+  pub chosen-number : RefusalOf kind n → number n ≡ n
+  chosen-number (inl w) = omega arith
+  chosen-number (inr e) = omega arith
+
+  pub chosen-above : RefusalOf kind n → No.kind ≤ n
+  chosen-above (inl w) = w .0
+  chosen-above (inr e) = omega arith
+
+pub step-chosen : {n : ℕ} → StepRefusal n → RefusalOf step n
+step-chosen (inl w) = inl (omega arith, omega arith)
+step-chosen (inr e) = inr (refl, e)
+
+pub step-told : {n : ℕ} → StepRefusal n → StepRefusal (number n)
+step-told w = rw (chosen-number (step-chosen w)) w
 
 -- the value 0, and answers that give nothing more
 module _ (a : Answer (Unit {0})) (G : Unit {0} → Type 0) (R : Refusal → Type 0) (fits : (q : Refusal) → R q → Fits q)

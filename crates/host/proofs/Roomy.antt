@@ -24,13 +24,14 @@ use Rattle.chains.proofs.Theorem.{now-few, now-room, now-stands, waiting-steps}
 use Rattle.host.specs.Macros.{value, number, poolWords, step, noThread}
 use Rattle.host.specs.Contracts.{Choose, Which}
 use Rattle.host.specs.Laws.{refusalIn}
-use Rattle.host.specs.Sessions.{Call, Made, Session, Returned, CanStep}
+use Rattle.host.specs.Sessions.{Call, Made, Session, Returned, CanStep, Overflows}
 use Rattle.host.specs.Roomy.{Unfilled, NotFull, frameCount, Roomy, Depth}
 use Rattle.host.proofs.Macros.{refusal-number, given-read, refused-read, read-done}
 use Rattle.host.proofs.Laws.{depth-law, start-law, choose-law, schedule-law}
 use Rattle.host.proofs.Beats.{beat-step, run-step}
 use Rattle.host.proofs.Counts.{counts-few}
-use Rattle.host.proofs.Sessions.{Reached, reached-lent, returned, can-step, none-steps, waits, call-safe, session-safe, begun}
+use Rattle.host.proofs.Sessions.{Reached, reached-lent, returned, can-step, overflows, none-steps, waits, call-safe}
+use Rattle.host.proofs.Sessions.{session-safe, begun}
 
 -- the frame counts of words in which no thread has more than d frames
 few-counts : (s : List ℕ) (d : ℕ) (w : List ℤ) → Few s d w → (i : ℕ) → frameCount w i ≤ d
@@ -55,11 +56,11 @@ module _ (s : List ℕ) (d : ℕ) (D : depth s ≡ Answer.given d) (ws : List �
     unfolding ofCall
     at-room g kind thread = rw (← g .is) (now-room s d D ws n (g .calls) l (Model.Call.choose kind thread) .0)
 
-    at-stands : {w : List ℤ} → At w → Model.Returned s w ⊎ Model.CanStep s w
+    at-stands : {w : List ℤ} → At w → Model.Returned s w ⊎ (Model.CanStep s w ⊎ Model.Overflows s w)
     at-stands g = rw (← g .is) (now-stands s d D ws n (g .calls) l)
 
     at-waiting : {w : List ℤ} → At w → (i : ℕ) → Calls.choose s w 0 i .answer ≡ Answer.refused (Refusal.plain No.waits) →
-        Model.CanStep s w
+        Model.CanStep s w ⊎ Model.Overflows s w
     at-waiting g i = rw (← g .is) (waiting-steps s d D ws n (g .calls) l i)
 
     -- a choice; a list of choices, a beat and a run stop at a choice that is answered the same
@@ -78,9 +79,9 @@ module _ (s : List ℕ) (d : ℕ) (D : depth s ≡ Answer.given d) (ws : List �
         let same = S .again _ (a .after) (record { number = refl; words = refl }) in
         choose-room g′ (c .kind) (c .thread) r (a .after) (record { number = sym same; words = refl }) e i
     call-room w (Call.beat thread i c r) w′ g g′ m = λ e x.
-        choose-room g step thread r _ (beat-step s w thread i c r w′ m e (omega arith, omega arith)) e x
+        choose-room g step thread r _ (beat-step s w thread i c r w′ m e (inl (omega arith, omega arith))) e x
     call-room w (Call.run i c threads r steps made) w′ g g′ m = λ e x.
-        let (j, k) = run-step s w i c threads r steps made w′ m e (omega arith, omega arith) in
+        let (j, k) = run-step s w i c threads r steps made w′ m e (inl (omega arith, omega arith)) in
         choose-room g′ step j r _ k e x
     call-room w (Call.which r) w′ g g′ m = tt
     call-room w (Call.values vs r vs′) w′ g g′ m = tt
@@ -91,13 +92,20 @@ module _ (s : List ℕ) (d : ℕ) (D : depth s ≡ Answer.given d) (ws : List �
         let g₁ = call-safe s ws accepted n w c (m .0) g (m .1) .1 in
         (call-room w c (m .0) g g₁ (m .1), session-room cs (m .0) w′ g₁ (m .2))
 
-    stands : {w : List ℤ} (g : At w) → Model.Returned s w ⊎ Model.CanStep s w → Returned s w ⊎ CanStep s w
-    stands {w} g (inl r) = inl (returned s w (reached-lent s ws accepted n g) r)
-    stands {w} g (inr c) = inr (can-step s w (reached-lent s ws accepted n g) c)
+    moves : {w : List ℤ} (g : At w) → Model.CanStep s w ⊎ Model.Overflows s w → CanStep s w ⊎ Overflows s w
+    moves {w} g (inl c) = inl (can-step s w (reached-lent s ws accepted n g) c)
+    moves {w} g (inr o) = inr (overflows s w (reached-lent s ws accepted n g) o)
 
-    nobody : {w : List ℤ} (g : At w) → Model.Returned s w ⊎ Model.CanStep s w → (r : ℕ) → Which s w r → value r ≡ noThread → Returned s w
-    nobody {w} g (inl d) r m e = returned s w (reached-lent s ws accepted n g) d
-    nobody {w} g (inr c) r m e = absurd (none-steps s w (reached-lent s ws accepted n g) r m e c)
+    stands : {w : List ℤ} (g : At w) → Model.Returned s w ⊎ (Model.CanStep s w ⊎ Model.Overflows s w) →
+        Returned s w ⊎ (CanStep s w ⊎ Overflows s w)
+    stands {w} g (inl r) = inl (returned s w (reached-lent s ws accepted n g) r)
+    stands {w} g (inr m) = inr (moves g m)
+
+    nobody : {w : List ℤ} (g : At w) → Model.Returned s w ⊎ (Model.CanStep s w ⊎ Model.Overflows s w) → (r : ℕ) → Which s w r →
+        value r ≡ noThread → Returned s w ⊎ Overflows s w
+    nobody {w} g (inl d) r m e = inl (returned s w (reached-lent s ws accepted n g) d)
+    nobody {w} g (inr (inl c)) r m e = absurd (none-steps s w (reached-lent s ws accepted n g) r m e c)
+    nobody {w} g (inr (inr o)) r m e = inr (overflows s w (reached-lent s ws accepted n g) o)
 
   roomy : (cs : List Call) (w w′ : List ℤ) → At w → Session s w cs w′ → Roomy s d cs w′
   roomy cs w w′ g m =
@@ -108,7 +116,7 @@ module _ (s : List ℕ) (d : ℕ) (D : depth s ≡ Answer.given d) (ws : List �
         answered = λ l. session-room l cs w w′ g m;
         stands = λ l. stands l g′ (at-stands l g′);
         nobody = λ l. nobody l g′ (at-stands l g′);
-        waiting = λ l i r v c e k. can-step s w′ lends (at-waiting l g′ i (waits s w′ lends i r v c e k));
+        waiting = λ l i r v c e k. moves l g′ (at-waiting l g′ i (waits s w′ lends i r v c e k));
       }
 
 -- a table of depth 8 or less never runs out of frames, by what the exported functions answer and leave

@@ -1,5 +1,5 @@
 -- Demand 3 of the exported functions, from demand 3 of the model and the laws of the exports.
-use Prim.Native.Nat.{ℕ, _≤_}
+use Prim.Native.Nat.{ℕ, _≤_, _<_}
 use mathlib.Core.Path.{_≡_, refl, sym, _∙_, ap, subst}
 use mathlib.Core.Logic.{_≢_, _⊎_, inl, inr}
 use mathlib.Core.Bool.{Bool, true, false}
@@ -11,7 +11,7 @@ use lib.Arith.{lt-of-le-ne}
 use lib.IntN.{ℤ}
 use lib.ListN.{length}
 use Rattle.model.specs.Numbers as No
-use Rattle.model.specs.Numbers.{Within}
+use Rattle.model.specs.Numbers.{Within, StepRefusal}
 use Rattle.model.specs.Answers.{Refusal, Answer, numberOf, with}
 use Rattle.model.specs.Lists.{Each}
 use Rattle.model.specs.Syntax.{Function, Program}
@@ -33,8 +33,8 @@ use Rattle.safety.proofs.Theorem.{demand3, now, always-pool, waiting-moves}
 use Rattle.host.specs.Macros.{isGiven, value, number, poolWords, step, noThread}
 use Rattle.host.specs.Contracts.{Choose, Schedule, Beat, Run, Which, Values}
 use Rattle.host.specs.Laws.{refusalIn, threadIn, OfChoice}
-use Rattle.host.specs.Sessions.{Call, Made, Session, Unstuck, Unjammed, Answered, Returned, CanStep, OutOfFrames, Stands, Safe}
-use Rattle.host.specs.Sessions.{Demand3}
+use Rattle.host.specs.Sessions.{Call, Made, Session, Unstuck, Unjammed, Answered, Returned, CanStep, OutOfFrames, Overflows, Moves}
+use Rattle.host.specs.Sessions.{Stands, Safe, Demand3}
 use Rattle.host.proofs.Codes.{Bare, counted-code, count, is-given, plain-in}
 use Rattle.host.proofs.Macros.{refusal-number, given-read, refused-read, read-given, read-refused, done-read}
 use Rattle.host.proofs.Macros.{stopped-read, read-done}
@@ -54,9 +54,12 @@ unfolding choices finally
 choices-append s ws [] ds = refl
 choices-append s ws (c ∷ cs) ds = rw (choices-append s (left s ws c) cs ds, append-assoc) refl
 
--- a number that a choice may be refused with
+-- a number that a choice may be refused with, and one that a step may
 abbrev Free : ℕ → Type 0
 Free n = (No.kind ≤ n) × (n ≢ No.stuck)
+
+abbrev Unjams : ℕ → Type 0
+Unjams n = Within No.thread No.frames n ⊎ (n ≡ No.overflow)
 
 -- where each choice of a list is answered well, so is the list
 run-answered : (s : List ℕ) (P : Program) (p : Pool) (cs : List Choice) (ws : List ℤ) →
@@ -131,54 +134,56 @@ module _ (s : List ℕ) (ws : List ℤ) (h : Calls.check s ≡ Answer.given tt) 
         rw (← g .is) (each-left (Model.Answered s) (ofCall s (now s ws (g .calls)) c) [] last)
 
 -- a refusal of a choice, read by the macros
-unstuck : {s : List ℕ} (r : ℕ) → OfChoice s r → Free (numberOf (refusalIn r)) →
-    Within No.kind No.threads (number r) × (number r ≢ No.stuck)
-unstuck {s} r c f = go c (rw (refusal-number r) at f)
-  where
-    go : OfChoice s r → Free (number r) → Within No.kind No.threads (number r) × (number r ≢ No.stuck)
-    go (inl t) f = absurd (omega (arith, t .numbered .1))
-    go (inr w) f = ((f .0, w .1), f .1)
+unstuck : {s : List ℕ} (r : ℕ) → OfChoice s r → Free (number r) → Unstuck r
+unstuck r (inl t) f e = absurd (omega (arith, t .numbered .1))
+unstuck r (inr (inl w)) f e = inl ((f .0, w .1), f .1)
+unstuck r (inr (inr o)) f e = inr o
 
 -- the exported functions, on words that are a pool of the table
 module _ (s : List ℕ) (w : List ℤ) (lends : (l : Lent) × (lent s w ≡ Answer.given l)) where
+  choose-free : (kind thread r : ℕ) (w′ : List ℤ) → Model.Answered s (record { words = w; kind = kind; thread = thread }) →
+      Choose s w kind thread r w′ → isGiven r ≡ false → Free (number r)
+  unfolding Model.Answered
+  choose-free kind thread r w′ a m e =
+      rw (← refusal-number r) (a (refusalIn r) (sym (choose-law s w kind thread r w′ m .answers) ∙ refused-read r e))
+
   choose-unstuck : (kind thread r : ℕ) (w′ : List ℤ) → Model.Answered s (record { words = w; kind = kind; thread = thread }) →
       Choose s w kind thread r w′ → Unstuck r
-  unfolding Model.Answered
   choose-unstuck kind thread r w′ a m e =
-      let t = choose-law s w kind thread r w′ m in
-      unstuck r (t .refused e .0) (a (refusalIn r) (sym (t .answers) ∙ refused-read r e))
+      unstuck r (choose-law s w kind thread r w′ m .refused e .0) (choose-free kind thread r w′ a m e) e
 
   schedule-unstuck : (cs : List Choice) (r made : ℕ) (w′ : List ℤ) → Each (Model.Answered s) (ofSchedule s w cs) →
       Schedule s w cs r made w′ → Unstuck r
   schedule-unstuck cs r made w′ a m e =
       let t = schedule-law s w cs r made w′ m in
-      unstuck r (t .refused e) (schedule-answered s cs w (lends .0) (lends .1) a (stopped-read r _ (t .answers) e))
+      let f = schedule-answered s cs w (lends .0) (lends .1) a (stopped-read r _ (t .answers) e) in
+      unstuck r (t .refused e) (rw (refusal-number r) at f) e
 
   -- a step is never stuck
   abbrev Unstopped : Type 0
   Unstopped = (i : ℕ) → Model.Answered s (record { words = w; kind = step; thread = i })
 
   step-unjammed : (thread r : ℕ) (w′ : List ℤ) → Unstopped → Choose s w step thread r w′ → isGiven r ≡ false →
-      Within No.thread No.stuck (number r) → Within No.thread No.frames (number r)
-  step-unjammed thread r w′ a m e x =
-      let l = lt-of-le-ne (x .1) (choose-unstuck step thread r w′ (a thread) m e .1) in
-      (x .0, omega (arith, l))
+      StepRefusal (number r) → Unjams (number r)
+  step-unjammed thread r w′ a m e (inl x) =
+      let l = lt-of-le-ne (x .1) (choose-free step thread r w′ (a thread) m e .1) in
+      inl (x .0, omega (arith, l))
+  step-unjammed thread r w′ a m e (inr x) = inr x
 
   beat-unjammed : (thread n c r : ℕ) (w′ : List ℤ) → Unstopped → Beat s w thread n c r w′ → Unjammed r
   beat-unjammed thread n c r w′ a m e = go (beat-stopping s w n c (lends .1) thread r w′ m e)
     where
-      go : (number r ≡ No.pace) ⊎ Within No.thread No.stuck (number r) → (number r ≡ No.pace) ⊎ Within No.thread No.frames (number r)
+      go : (number r ≡ No.pace) ⊎ StepRefusal (number r) → (number r ≡ No.pace) ⊎ Unjams (number r)
       go (inl x) = inl x
       go (inr x) = inr (step-unjammed thread r _ a (beat-step s w thread n c r w′ m e x) e x)
 
   -- a run stops at a beat of the words that it leaves
   run-unjammed : (n c : ℕ) (threads : List ℕ) (r steps made : ℕ) (w′ : List ℤ) →
-      ((i v : ℕ) (w″ : List ℤ) → Choose s w′ step i v w″ → isGiven v ≡ false → Within No.thread No.stuck (number v) →
-      Within No.thread No.frames (number v)) →
+      ((i v : ℕ) (w″ : List ℤ) → Choose s w′ step i v w″ → isGiven v ≡ false → StepRefusal (number v) → Unjams (number v)) →
       Run s w n c threads r (steps ∷ made ∷ []) w′ → Unjammed r
   run-unjammed n c threads r steps made w′ a m e = go (run-stopping s w n c (lends .1) threads r steps made w′ m e)
     where
-      go : (number r ≡ No.pace) ⊎ Within No.thread No.stuck (number r) → (number r ≡ No.pace) ⊎ Within No.thread No.frames (number r)
+      go : (number r ≡ No.pace) ⊎ StepRefusal (number r) → (number r ≡ No.pace) ⊎ Unjams (number r)
       go (inl x) = inl x
       go (inr x) = let (i, k) = run-step s w n c threads r steps made w′ m e x in inr (a i r _ k e x)
 
@@ -221,21 +226,29 @@ module _ (s : List ℕ) (w : List ℤ) (lends : (l : Lent) × (lent s w ≡ Answ
             (g, rw v (c .ordinary));
       }
 
-  out-of-frames : Model.OutOfFrames s w → OutOfFrames s w
+  -- a step that is refused, and not for want of its thread
+  gets : {n : ℕ} (i : ℕ) → n ≢ No.thread → Calls.choose s w 0 i .answer ≡ Answer.refused (Refusal.plain n) →
+      (i < 8) × ((r : ℕ) (w′ : List ℤ) → Choose s w step i r w′ → (isGiven r ≡ false) × (number r ≡ n))
   unfolding numberOf
-  out-of-frames o =
-      record {
-        thread = o .thread;
-        there = step-there s w (o .thread) (lends .0) (lends .1) λ e.
-            let z : _≡_ {A = ℕ} No.frames No.thread = cc in
-            omega arith;
-        gets = λ r w′ m. read-refused r (choose-law s w 0 (o .thread) r w′ m .answers ∙ o .gets);
-      }
+  gets {n} i d q = (
+    step-there s w i (lends .0) (lends .1) λ e. let z : n ≡ No.thread = cc in d z,
+    λ r w′ m. read-refused r (choose-law s w 0 i r w′ m .answers ∙ q),
+  )
+
+  pub overflows : Model.Overflows s w → Overflows s w
+  overflows o = let (t, g) = gets (o .thread) (omega arith) (o .gets) in record { thread = o .thread; there = t; gets = g }
+
+  fails : Model.OutOfFrames s w ⊎ Model.Overflows s w → OutOfFrames s w ⊎ Overflows s w
+  fails (inl o) = let (t, g) = gets (o .thread) (omega arith) (o .gets) in inl (record { thread = o .thread; there = t; gets = g })
+  fails (inr o) = inr (overflows o)
+
+  moves : Model.Moves s w → Moves s w
+  moves (inl c) = inl (can-step c)
+  moves (inr o) = inr (fails o)
 
   stands : Model.Stands s w → Stands s w
   stands (inl d) = inl (returned d)
-  stands (inr (inl c)) = inr (inl (can-step c))
-  stands (inr (inr o)) = inr (inr (out-of-frames o))
+  stands (inr m) = inr (moves m)
 
   -- what mezdaulk_which tells
   pub none-steps : (r : ℕ) → Which s w r → value r ≡ noThread → ¬ Model.CanStep s w
@@ -247,13 +260,11 @@ module _ (s : List ℕ) (w : List ℤ) (lends : (l : Lent) × (lent s w ≡ Answ
       let nobody : Nobody s w = subst (Right s w) is (right s w) in
       nobody .none (c .thread) (c .rule, c .makes)
 
-  nobody : Model.Stands s w → (r : ℕ) → Which s w r → value r ≡ noThread → Returned s w ⊎ OutOfFrames s w
-  nobody t r m e = go t
-    where
-      go : Model.Stands s w → Returned s w ⊎ OutOfFrames s w
-      go (inl d) = inl (returned d)
-      go (inr (inl c)) = absurd (none-steps r m e c)
-      go (inr (inr o)) = inr (out-of-frames o)
+  nobody : Model.Stands s w → (r : ℕ) → Which s w r → value r ≡ noThread →
+      Returned s w ⊎ (OutOfFrames s w ⊎ Overflows s w)
+  nobody (inl d) r m e = inl (returned d)
+  nobody (inr (inl c)) r m e = absurd (none-steps r m e c)
+  nobody (inr (inr o)) r m e = inr (fails o)
 
   -- a step that waits
   pub waits : (thread r : ℕ) (w′ : List ℤ) → Choose s w step thread r w′ → isGiven r ≡ false → number r ≡ No.waits →
@@ -261,10 +272,6 @@ module _ (s : List ℕ) (w : List ℤ) (lends : (l : Lent) × (lent s w ≡ Answ
   waits thread r w′ m e i =
       sym (choose-law s w step thread r w′ m .answers) ∙ refused-read r e ∙
       ap Answer.refused (plain-in r No.waits i (Bare.ofCall (lit≤ tt, lit≤ tt)))
-
-  moves : Model.Moves s w → CanStep s w ⊎ OutOfFrames s w
-  moves (inl c) = inl (can-step c)
-  moves (inr o) = inr (out-of-frames o)
 
 -- sessions of an accepted table
 module _ (s : List ℕ) (ws : List ℤ) (h : Calls.check s ≡ Answer.given tt) (n : length ws ≡ poolWords) where

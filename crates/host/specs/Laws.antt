@@ -10,7 +10,7 @@ use lib.Dec.{eqb, leb}
 use lib.IntN.{ℤ, pos}
 use lib.ListN.{length, getD, getElem?, set, take, drop, replicate}
 use Rattle.model.specs.Numbers as No
-use Rattle.model.specs.Numbers.{Within, RuleOf}
+use Rattle.model.specs.Numbers.{Within, RuleOf, StepRefusal}
 use Rattle.model.specs.Answers.{Refusal, Answer, outcome}
 use Rattle.model.specs.Pool.{frameCountAt, threadCountAt, threadStart}
 use Rattle.model.specs.Calls as Calls
@@ -20,6 +20,7 @@ use Rattle.numbering.specs.Tidy.{tidy}
 use Rattle.inference.specs.Complete.{scratchWords, outputBytes, cleared, complete}
 use Rattle.tokens.specs.Beats as Beats
 use Rattle.tokens.specs.Beats.{mostN, mostC}
+use Rattle.overflows.specs.Means.{Overflowing}
 use Rattle.views.specs.Lines.{Viewer}
 use Rattle.views.specs.Listing.{list}
 use Rattle.host.specs.Macros.{isGiven, value, number, place, block, function, rule, promotions, poolWords, step, noThread}
@@ -69,12 +70,12 @@ pub record OfProgram (s : List ℕ) (r : ℕ) : Type 0 where
   pub functionThere : function r < getD s 5 0
   pub functions : getD s 5 0 ≤ 16
 
--- 1 to 3, 12 and 13; 1 to 3, and 12 to 21
+-- 1 to 3, 12 and 13; 1 to 3, 12 to 21, and 29
 abbrev pub OfPool : List ℕ → ℕ → Type 0
 OfPool s r = OfTable s r ⊎ Within No.words No.pool (number r)
 
 abbrev pub OfChoice : List ℕ → ℕ → Type 0
-OfChoice s r = OfTable s r ⊎ Within No.words No.threads (number r)
+OfChoice s r = OfTable s r ⊎ (Within No.words No.threads (number r) ⊎ (number r ≡ No.overflow))
 
 -- mezdaulk_read
 pub record ReadTells (s : List ℕ) (r : ℕ) : Type 0 where
@@ -144,11 +145,13 @@ pub record StartTells (s : List ℕ) (ws : List ℤ) (r : ℕ) (ws′ : List ℤ
   pub given : isGiven r ≡ true → (value r ≡ 0) × (ws′ ≡ fresh)
   pub refused : isGiven r ≡ false → (OfTable s r ⊎ (number r ≡ No.words)) × (ws′ ≡ ws)
 
--- mezdaulk_choose: the value is the rule
+-- mezdaulk_choose: the value is the rule. It is refused 29 exactly where it is a step of a thread whose next expression overflows
 pub record ChooseTells (s : List ℕ) (ws : List ℤ) (kind thread r : ℕ) (ws′ : List ℤ) : Type 0 where
   pub answers : answerIn r ≡ Calls.choose s ws kind thread .answer
   pub given : isGiven r ≡ true → RuleOf kind (value r)
   pub refused : isGiven r ≡ false → OfChoice s r × (ws′ ≡ ws)
+  pub overflows : isGiven r ≡ false → number r ≡ No.overflow → (kind ≡ step) × Overflowing s ws thread
+  pub named : kind ≡ step → Overflowing s ws thread → (isGiven r ≡ false) × (number r ≡ No.overflow)
 
 -- the choice behind those made: put to the words that they left, it is answered the same number
 pub record StopsAt (s : List ℕ) (ws : List ℤ) (cs : List Choice) (r made : ℕ) : Type 0 where
@@ -157,7 +160,7 @@ pub record StopsAt (s : List ℕ) (ws : List ℤ) (cs : List Choice) (r made : �
   pub again : (q : ℕ) (ws′ : List ℤ) → Choose s ws (choice .kind) (choice .thread) q ws′ → q ≡ r
 
 -- mezdaulk_schedule: given, it made all of its choices; refused with 1 to 3, 12 or 13, it made none and wrote nothing; refused
--- with 14 to 21, it stopped at a choice
+-- with 14 to 21 or 29, it stopped at a choice
 pub record ScheduleTells (s : List ℕ) (ws : List ℤ) (cs : List Choice) (r made : ℕ) (ws′ : List ℤ) : Type 0 where
   pub answers : outcome (answerIn r) ≡ Calls.schedule s ws cs .answer
   pub given : isGiven r ≡ true → (value r ≡ 0) × (made ≡ length cs)
@@ -169,12 +172,12 @@ pub record ScheduleTells (s : List ℕ) (ws : List ℤ) (cs : List Choice) (r ma
 unfoldable pub beatIn : ℕ → Answer Beats.Beat
 beatIn r = cond (isGiven r) (Answer.given (record { rule = rule r; promotions = promotions r })) (Answer.refused (refusalIn r))
 
--- 1 to 3, 12, 13 and 27, with which a beat or a run is refused before any step; and then 15 to 19
+-- 1 to 3, 12, 13 and 27, with which a beat or a run is refused before any step; and then 15 to 19, and 29
 abbrev pub BeforeBeat : List ℕ → ℕ → Type 0
 BeforeBeat s r = OfPool s r ⊎ (number r ≡ No.pace)
 
 abbrev pub OfBeat : List ℕ → ℕ → Type 0
-OfBeat s r = BeforeBeat s r ⊎ Within No.thread No.stuck (number r)
+OfBeat s r = BeforeBeat s r ⊎ StepRefusal (number r)
 
 -- N and C of a beat
 abbrev pub Pace : ℕ → ℕ → Type 0
@@ -207,7 +210,7 @@ pub record StopsAtBeat (s : List ℕ) (ws : List ℤ) (n c : ℕ) (threads : Lis
   pub again : (q : ℕ) (ws′ : List ℤ) → Beat s ws thread n c q ws′ → q ≡ r
 
 -- mezdaulk_run: given, it made a step of each of its threads; refused with 1 to 3, 12, 13 or 27, it made nothing and wrote nothing but two
--- 0s; refused with 15 to 19, it stopped at a beat. With an N or C out of range an empty run is refused, too. Each promotion makes a
+-- 0s; refused with 15 to 19 or 29, it stopped at a beat. With an N or C out of range an empty run is refused, too. Each promotion makes a
 -- thread, of which there are 8 at most, and a step frees one at most
 pub record RunTells (s : List ℕ) (ws : List ℤ) (n c : ℕ) (threads : List ℕ) (r steps made : ℕ) (ws′ : List ℤ) : Type 0 where
   pub answers : outcome (answerIn r) ≡ Beats.run s ws n c threads .answer
@@ -215,7 +218,7 @@ pub record RunTells (s : List ℕ) (ws : List ℤ) (n c : ℕ) (threads : List �
   pub given : isGiven r ≡ true → (value r ≡ 0) × (steps ≡ length threads)
   pub refused : isGiven r ≡ false → OfBeat s r
   pub before : isGiven r ≡ false → BeforeBeat s r → (steps ≡ 0) × (made ≡ 0) × (ws′ ≡ ws)
-  pub stops : isGiven r ≡ false → Within No.thread No.stuck (number r) → StopsAtBeat s ws′ n c threads r steps
+  pub stops : isGiven r ≡ false → StepRefusal (number r) → StopsAtBeat s ws′ n c threads r steps
   pub unpaced : ¬ Pace n c → Unpaced s ws r
 
 -- mezdaulk_which: the value is the first thread that can step, or 8 for none. A step of that thread, put to mezdaulk_choose in its place,

@@ -13,7 +13,7 @@ use Rattle.model.specs.Pool.{mostFrames, mostThreads, frameCountAt, threadStart
 use Rattle.host.specs.Macros.{isGiven, value, number, poolWords, step, noThread}
 use Rattle.host.specs.Contracts as Contracts
 use Rattle.host.specs.Contracts.{Start, Choose, Which}
-use Rattle.host.specs.Sessions.{Call, Session, Returned, CanStep}
+use Rattle.host.specs.Sessions.{Call, Session, Returned, CanStep, Overflows}
 
 -- a choice, a list of choices, a beat or a run was not refused 18
 abbrev pub Unfilled : ℕ → Type 0
@@ -32,15 +32,16 @@ abbrev pub frameCount : List ℤ → ℕ → ℕ
 frameCount ws i = wordAt ws (threadStart i + frameCountAt)
 
 -- what is claimed of a session that left the words ws, by the frames d that mezdaulk_depth gave: no thread has more; and where they
--- are at most 8, no call was refused 18, and main has returned or a thread can step. Of a call put next: where mezdaulk_which tells no
--- thread, main has returned; and where a step is refused 17, some thread can step
+-- are at most 8, no call was refused 18, and main has returned, or a thread can step or overflows. Of a call put next: where
+-- mezdaulk_which tells no thread, main has returned or a thread overflows; and where a step is refused 17, some thread can step or
+-- overflows
 pub record Roomy (s : List ℕ) (d : ℕ) (cs : List Call) (ws : List ℤ) : Type 0 where
   pub few : (i : ℕ) → i < mostThreads → frameCount ws i ≤ d
   pub answered : d ≤ mostFrames → Each NotFull cs
-  pub stands : d ≤ mostFrames → Returned s ws ⊎ CanStep s ws
-  pub nobody : d ≤ mostFrames → (r : ℕ) → Which s ws r → value r ≡ noThread → Returned s ws
+  pub stands : d ≤ mostFrames → Returned s ws ⊎ (CanStep s ws ⊎ Overflows s ws)
+  pub nobody : d ≤ mostFrames → (r : ℕ) → Which s ws r → value r ≡ noThread → Returned s ws ⊎ Overflows s ws
   pub waiting : d ≤ mostFrames → (thread r : ℕ) (ws′ : List ℤ) → Choose s ws step thread r ws′ → isGiven r ≡ false →
-      number r ≡ No.waits → CanStep s ws
+      number r ≡ No.waits → CanStep s ws ⊎ Overflows s ws
 
 -- for every table that mezdaulk_depth gave a value, every pool's length of words lent to mezdaulk_start, and every session after it
 abbrev pub Depth : Type 0

@@ -37,13 +37,13 @@ abbrev pub Session : List ℕ → List ℤ → List Call → List ℤ → Type 0
 Session s ws [] ws′ = ws′ ≡ ws
 Session s ws (c ∷ cs) ws′ = (between : List ℤ) × Made s ws c between × Session s between cs ws′
 
--- a refused choice, or list of choices, answered one of 14 to 21 and not 19: so none of 1 to 3, 12 and 13, and never "stuck". The
--- two questions were given. A refused beat, or run of beats, answered 27 or one of 15 to 18
+-- a refused choice, or list of choices, answered one of 14 to 21 and not 19, or 29: so none of 1 to 3, 12 and 13, and never "stuck".
+-- The two questions were given. A refused beat, or run of beats, answered 27, one of 15 to 18, or 29
 abbrev pub Unstuck : ℕ → Type 0
-Unstuck r = isGiven r ≡ false → Within No.kind No.threads (number r) × (number r ≢ No.stuck)
+Unstuck r = isGiven r ≡ false → (Within No.kind No.threads (number r) × (number r ≢ No.stuck)) ⊎ (number r ≡ No.overflow)
 
 abbrev pub Unjammed : ℕ → Type 0
-Unjammed r = isGiven r ≡ false → (number r ≡ No.pace) ⊎ Within No.thread No.frames (number r)
+Unjammed r = isGiven r ≡ false → (number r ≡ No.pace) ⊎ (Within No.thread No.frames (number r) ⊎ (number r ≡ No.overflow))
 
 abbrev pub Answered : Call → Type 0
 Answered (Call.choose kind thread r) = Unstuck r
@@ -71,18 +71,27 @@ pub record OutOfFrames (s : List ℕ) (ws : List ℤ) : Type 0 where
   pub there : thread < 8
   pub gets : (r : ℕ) (ws′ : List ℤ) → Choose s ws step thread r ws′ → (isGiven r ≡ false) × (number r ≡ No.frames)
 
+-- a thread's next expression overflows: mezdaulk_choose of it, put next, is refused 29
+pub record Overflows (s : List ℕ) (ws : List ℤ) : Type 0 where
+  pub thread : ℕ
+  pub there : thread < 8
+  pub gets : (r : ℕ) (ws′ : List ℤ) → Choose s ws step thread r ws′ → (isGiven r ≡ false) × (number r ≡ No.overflow)
+
+abbrev pub Moves : List ℕ → List ℤ → Type 0
+Moves s ws = CanStep s ws ⊎ (OutOfFrames s ws ⊎ Overflows s ws)
+
 abbrev pub Stands : List ℕ → List ℤ → Type 0
-Stands s ws = Returned s ws ⊎ (CanStep s ws ⊎ OutOfFrames s ws)
+Stands s ws = Returned s ws ⊎ Moves s ws
 
 -- what is claimed of a session that left the words ws: how its calls were answered, and how the words stand. Of a call put next:
--- where mezdaulk_which tells no thread, main has returned or a thread is out of frames; and where a step is refused 17, some thread can
--- step or is out of frames
+-- where mezdaulk_which tells no thread, main has returned, or a thread is out of frames or overflows; and where a step is refused 17,
+-- some thread can step, or is out of frames, or overflows
 pub record Safe (s : List ℕ) (cs : List Call) (ws : List ℤ) : Type 0 where
   pub answered : Each Answered cs
   pub stands : Stands s ws
-  pub nobody : (r : ℕ) → Which s ws r → value r ≡ noThread → Returned s ws ⊎ OutOfFrames s ws
+  pub nobody : (r : ℕ) → Which s ws r → value r ≡ noThread → Returned s ws ⊎ (OutOfFrames s ws ⊎ Overflows s ws)
   pub waiting : (thread r : ℕ) (ws′ : List ℤ) → Choose s ws step thread r ws′ → isGiven r ≡ false → number r ≡ No.waits →
-      CanStep s ws ⊎ OutOfFrames s ws
+      Moves s ws
 
 -- a start that answered r, and every session from the words that it left
 pub record NeverJams (s : List ℕ) (r : ℕ) (ws : List ℤ) : Type 0 where

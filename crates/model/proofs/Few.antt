@@ -13,10 +13,10 @@ use Rattle.model.specs.Syntax.{Statement, Transfer, Block, Function, Pro
 use Rattle.model.specs.Limits.{InFunction, InBlock, InTransfer, Limits}
 use Rattle.model.specs.Pool.{Frame, Thread, Pool, functionOf, blockIn, blockOf}
 use Rattle.model.specs.Frames.{_>>=_, when, look, lookAll, eval, callee}
-use Rattle.model.specs.Rules.{Act, by, acts, stmt, goto, branch, if, call, return, spork, closing, spoin, transfer, coming}
+use Rattle.model.specs.Rules.{Act, by, acts, assign, stmt, goto, branch, if, call, return, spork, closing, spoin, transfer, coming}
 use Rattle.model.specs.Rules.{act, returned, ended, mainValues}
 use Rattle.model.proofs.Facts.{each-at, none-some, some-injective}
-use Rattle.model.proofs.Kept.{OnSome, on-bind}
+use Rattle.model.proofs.Kept.{OnSome, on-bind, on-carry}
 
 -- at most four values, where the act is a return
 abbrev Few : Act → Type 0
@@ -65,7 +65,8 @@ few-branch P k b c false = few-by _ _
 few-transfer : (P : Program) (k : Frame) (T : Transfer) → InTransfer T → Few (transfer P k T)
 unfolding transfer InTransfer goto if call return spork spoin
 few-transfer P k (Transfer.goto b x̄) h = few-by _ _
-few-transfer P k (Transfer.if e b c) h = few-acts _ (on-bind Few (eval k e) _ λ v q. few-branch P k b c (same v (pos 0)))
+few-transfer P k (Transfer.if e b c) h =
+    few-acts _ (on-bind Few (eval k e) _ λ w q. on-carry Few w _ tt λ v _. few-branch P k b c (same v (pos 0)))
 few-transfer P k (Transfer.call g x̄ b) h =
     few-acts _ (on-bind Few (lookAll k x̄) _ λ v̄ q. on-bind Few (callee P g v̄) _ λ l r. on-bind Few (blockOf P k b) _ λ B u. tt)
 few-transfer P k (Transfer.return x̄) h =
@@ -76,8 +77,8 @@ few-transfer P k (Transfer.spork b π) h = few-by _ _
 few-transfer P k (Transfer.spoin b c) h = few-acts _ (on-bind Few (unsnoc (k .calls)) _ λ I q. few-closing P k b c (I .front) _)
 
 few-coming : (P : Program) (k : Frame) (B : Block) (o : Option Statement) → InTransfer (B .transfer) → Few (coming P k B o)
-unfolding coming stmt
-few-coming P k B (some s) h = few-by _ _
+unfolding coming stmt assign
+few-coming P k B (some s) h = few-acts _ (on-bind Few (eval k (s .source)) _ λ w _. on-carry Few w _ tt λ v _. tt)
 few-coming P k B none h = few-transfer P k (B .transfer) h
 
 block-in : (P : Program) → Limits P → (k : Frame) (b : ℕ) (B : Block) → blockOf P k b ≡ some B → InBlock B

@@ -13,7 +13,7 @@ use lib.ListN.{length, getD, getElem?, set, length-set, length-append}
 use lib.Seq.{getD-set-other}
 use Rattle.model.specs.Numbers as No
 use Rattle.model.specs.Lists.{Each, Snoc, unsnoc, equal}
-use Rattle.model.specs.Values.{same}
+use Rattle.model.specs.Values.{Worked, same}
 use Rattle.model.specs.Sets.{has, with}
 use Rattle.model.specs.Syntax.{Expression, Statement, Transfer, Block, Function, Program}
 use Rattle.model.specs.Limits.{Temporaries, InStatement, InBlock, InFunction, Limits}
@@ -21,7 +21,7 @@ use Rattle.model.specs.Pool.{Frame, Thread, Pool, temporaries, mostCalls
 use Rattle.model.specs.Pool.{functionOf, blockIn, blockOf, children, trees, wordsOf, isPool}
 use Rattle.model.specs.Frames.{_>>=_, when, lookAll, eval, bind, bindAll, goTo, deque, entering, enter, callee}
 use Rattle.model.specs.Rules
-use Rattle.model.specs.Rules.{Act, by, acts, act, Result, Promotion, choice}
+use Rattle.model.specs.Rules.{Act, by, acts, carry, act, Result, Promotion, choice}
 use Rattle.model.specs.Answers.{Answer}
 use Rattle.model.specs.Calls.{Lent, lent, made, chosen, choose}
 use Rattle.model.proofs.Facts.{refused-given, ltb-true, ltb-false, eqb-true, at-below, at-past, each-at, each-append, each-left}
@@ -50,6 +50,13 @@ module _ {A : Type 0} (Q : A → Type 0) where
   unfolding when
   on-when true o h = h refl
   on-when false o h = tt
+
+-- Q of what an expression is carried on to: of an overflow's number, and of what its value makes
+pub on-carry : (Q : Act → Type 0) (w : Worked) (a : ℤ → Act) → Q (Act.refuse No.overflow) → ((v : ℤ) → w ≡ Worked.value v → Q (a v)) →
+    Q (carry w a)
+unfolding carry
+on-carry Q (Worked.value v) a r h = h v refl
+on-carry Q Worked.overflow a r h = r
 
 -- a valid frame with so many promoted calls
 pub record Goes (P : Program) (n : ℕ) (k : Frame) : Type 0 where
@@ -181,12 +188,13 @@ module _ {P : Program} (L : Limits P) where
   stmt-kept : (k : Frame) (B : Block) (x : Statement) → IsFrame P k → blockOf P k (k .block) ≡ some B
       → getElem? (B .code) (k .done) ≡ some x
       → Does P k (Rules.stmt k x)
-  unfolding Rules.stmt goTo bind blockOf functionOf
+  unfolding Rules.stmt Rules.assign goTo bind blockOf functionOf
   stmt-kept k B x h e g =
       let i = each-at InStatement (B .code) (k .done) (block-in (h .stands) (k .block) e .code) g in
       let l : k .done + 1 ≤ length (B .code) = omega (arith, at-below (B .code) (k .done) g) in
-      does-by P k No.stmt _
-      (on-bind (Goes P (k .promoted)) (eval k (x .source)) _ λ v _.
+      does-acts P k _
+      (on-bind (Does P k) (eval k (x .source)) _ λ w _.
+      on-carry (Does P k) w _ tt λ v _.
       record {
         frame = goTo-kept (bind k (x .target) v) (k .block) (k .done + 1) e l (bind-kept k (x .target) v (i .target) h);
         promoted = refl;
@@ -198,7 +206,7 @@ module _ {P : Program} (L : Limits P) where
 
   if-kept : (k : Frame) (e : Expression) (b c : ℕ) → IsFrame P k → Does P k (Rules.if P k e b c)
   unfolding Rules.if Rules.branch
-  if-kept k e b c h = does-acts P k _ (on-bind (Does P k) (eval k e) _ λ v _. side (same v (pos 0)))
+  if-kept k e b c h = does-acts P k _ (on-bind (Does P k) (eval k e) _ λ w _. on-carry (Does P k) w _ tt λ v _. side (same v (pos 0)))
     where
       side : (z : Bool) → Does P k (Rules.branch P k b c z)
       side true = does-by P k No.else _ (enter-kept k c [] h)

@@ -10,6 +10,7 @@ pub mod Members
 pub mod Runs
 pub mod Texts
 pub mod Printed
+pub mod Overflows
 pub mod Valid
 pub mod Words
 pub mod Kept

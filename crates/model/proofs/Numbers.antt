@@ -12,7 +12,7 @@ use lib.Dec.{eqb, leb, ltb}
 use lib.IntN.{ℤ, pos}
 use lib.ListN.{length, getD, getElem?}
 use Rattle.model.specs.Numbers as No
-use Rattle.model.specs.Numbers.{Within, RuleOf}
+use Rattle.model.specs.Numbers.{Within, RuleOf, StepRefusal, RefusalOf}
 use Rattle.model.specs.Answers.{Refusal, Answer, with}
 use Rattle.model.specs.Lists.{Each, equal, unsnoc}
 use Rattle.model.specs.Values.{same}
@@ -38,7 +38,7 @@ use Rattle.model.proofs.Guarantees
 use Rattle.model.proofs.Guarantees.{Gives, gives-pure, gives-then, gives-byte, gives-many, sized-is, reads, brief-reads, read-limits}
 use Rattle.model.proofs.Valid.{pool-facts}
 use Rattle.model.proofs.Words.{lent-given, lent-words}
-use Rattle.model.proofs.Kept.{OnSome, on-bind, on-is, on-when, choose-lent}
+use Rattle.model.proofs.Kept.{OnSome, on-bind, on-is, on-when, on-carry, choose-lent}
 use Rattle.model.proofs.Lowest.{Found, lowest-found}
 use Rattle.model.proofs.Schedules.{run-kept}
 
@@ -419,9 +419,9 @@ judge-can P = first-in (Faults P) (Check.tests P) (of-main (getElem? P 0), funct
     of-main none = tt
     of-main (some F) = Faults.main
 
--- what a newest frame can do: refuse with 19, go on by one of the rules 1 to 8, return at most four values, call, or join
+-- what a newest frame can do: refuse with 19 or 29, go on by one of the rules 1 to 8, return at most four values, call, or join
 abbrev pub Acts : Act → Type 0
-Acts (Act.refuse n) = n ≡ No.stuck
+Acts (Act.refuse n) = (n ≡ No.stuck) ⊎ (n ≡ No.overflow)
 Acts (Act.stay rule k) = Within No.stmt No.unpr rule
 Acts (Act.push k l) = Unit {0}
 Acts (Act.pop v̄) = length v̄ ≤ 4
@@ -429,12 +429,12 @@ Acts (Act.join k c) = Unit {0}
 
 by-acts : (rule : ℕ) (o : Option Frame) → (leb No.stmt rule && leb rule No.unpr) ≡ true → Acts (by rule o)
 unfolding by
-by-acts rule none h = refl
+by-acts rule none h = inl refl
 by-acts rule (some k) h = tested No.stmt No.unpr rule h
 
 acts-acts : (o : Option Act) → OnSome Acts o → Acts (acts o)
 unfolding acts
-acts-acts none h = refl
+acts-acts none h = inl refl
 acts-acts (some a) h = h
 
 look-length : (k : Frame) (x̄ : List ℕ) → OnSome (λ v̄. length v̄ ≡ length x̄) (lookAll k x̄)
@@ -458,7 +458,8 @@ closing-acts P k b c ρ false = tt
 transfer-acts : (P : Program) (k : Frame) (T : Transfer) → InTransfer T → Acts (Rules.transfer P k T)
 unfolding Rules.transfer Rules.goto Rules.if Rules.call Rules.return Rules.spork Rules.spoin InTransfer
 transfer-acts P k (Transfer.goto b x̄) h = by-acts No.goto _ refl
-transfer-acts P k (Transfer.if e b c) h = acts-acts _ (on-bind Acts (eval k e) _ λ v _. branch-acts P k b c (same v (pos 0)))
+transfer-acts P k (Transfer.if e b c) h =
+    acts-acts _ (on-bind Acts (eval k e) _ λ w _. on-carry Acts w _ (inr refl) λ v _. branch-acts P k b c (same v (pos 0)))
 transfer-acts P k (Transfer.call g x̄ b) h =
     acts-acts _ (on-bind Acts (lookAll k x̄) _ λ v̄ _. on-bind Acts (callee P g v̄) _ λ l _. on-bind Acts (blockOf P k b) _ λ B _. tt)
 transfer-acts P k (Transfer.return x̄) h =
@@ -478,28 +479,29 @@ module _ {P : Program} (L : Limits P) where
       go (some F) q e = each-at InBlock (F .blocks) b (each-at InFunction P (k .function) (L .functions) q .blocks) e
 
   pub act-acts : (k : Frame) → Acts (act P k)
-  unfolding act Rules.coming Rules.stmt
+  unfolding act Rules.coming Rules.stmt Rules.assign
   act-acts k =
       acts-acts _ (on-bind Acts (blockOf P k (k .block)) _ λ B e. coming B (block-limits k (k .block) e) (getElem? (B .code) (k .done)))
     where
       coming : (B : Block) → InBlock B → (o : Option Statement) → Acts (Rules.coming P k B o)
       coming B i none = transfer-acts P k (B .transfer) (i .transfer)
-      coming B i (some x) = by-acts No.stmt _ refl
+      coming B i (some x) =
+          acts-acts _ (on-bind Acts (eval k (x .source)) _ λ w _. on-carry Acts w _ (inr refl) λ v _. tested No.stmt No.unpr No.stmt refl)
 
--- a choice of a thread that is made has a rule from lo to hi, and a refused one a number from 15 to most
-abbrev Results : ℕ → ℕ → ℕ → Result → Type 0
-Results lo hi most (Result.made rule ts) = Within lo hi rule
-Results lo hi most (Result.refused n) = Within No.thread most n
+-- a choice of a thread that is made has a rule from lo to hi, and a refused one a number of N
+abbrev Results : ℕ → ℕ → (ℕ → Type 0) → Result → Type 0
+Results lo hi N (Result.made rule ts) = Within lo hi rule
+Results lo hi N (Result.refused n) = N n
 
--- a step: rules 1 to 9, and 15 to 19; a promotion: rule 10, and 15 to 21
+-- a step: rules 1 to 9, and 15 to 19 or 29; a promotion: rule 10, and 15 to 21
 abbrev pub StepOf : Result → Type 0
-StepOf x = Results No.stmt No.prom No.stuck x
+StepOf x = Results No.stmt No.prom StepRefusal x
 
 abbrev PromotionOf : Result → Type 0
-PromotionOf x = Results No.promote No.promote No.threads x
+PromotionOf x = Results No.promote No.promote (Within No.thread No.threads) x
 
-refuses : (n : ℕ) → (leb No.thread n && leb n No.stuck) ≡ true → Within No.thread No.stuck n
-refuses n e = tested No.thread No.stuck n e
+refuses : (n : ℕ) → (leb No.thread n && leb n No.stuck) ≡ true → StepRefusal n
+refuses n e = inl (tested No.thread No.stuck n e)
 
 top-results : (rule : ℕ) (t : Thread) (K : List Frame) (ts : List Thread) (o : Option Frame) →
     (leb No.stmt rule && leb rule No.prom) ≡ true → StepOf (Rules.onTop rule t K ts o)
@@ -515,7 +517,8 @@ pop-results P t (k ∷ K) ts v̄ = top-results No.return t K ts (enter P k (k .b
 
 apply-results : (P : Program) (t : Thread) (ts : List Thread) (a : Act) → Acts a → StepOf (Rules.apply P t ts a)
 unfolding Rules.apply Rules.joins Rules.joining
-apply-results P t ts (Act.refuse n) h = rw h (refuses No.stuck refl)
+apply-results P t ts (Act.refuse n) (inl e) = rw e (refuses No.stuck refl)
+apply-results P t ts (Act.refuse n) (inr e) = inr e
 apply-results P t ts (Act.stay rule k) h = (h .0, omega (arith, h .1))
 apply-results P t ts (Act.push k l) h = go (ltb (length (frames t)) mostFrames)
   where
@@ -545,14 +548,14 @@ promote-results P room t ts = go room (Rules.oldest (frames t))
     go true (some p) = made (restacked t (p .frames)) (Rules.child P (p .holder) (p .call))
 
 module _ (f : Thread → List Thread → Result) where
-  thread-results : (lo hi most : ℕ) → No.thread ≤ most → ((t : Thread) (ts : List Thread) → Results lo hi most (f t ts)) →
-      (p : Pool) (i : ℕ) → Results lo hi most (Rules.onThread f p i)
+  thread-results : (lo hi : ℕ) (N : ℕ → Type 0) → N No.thread → ((t : Thread) (ts : List Thread) → Results lo hi N (f t ts)) →
+      (p : Pool) (i : ℕ) → Results lo hi N (Rules.onThread f p i)
   unfolding Rules.onThread Rules.behind
-  thread-results lo hi most l h [] i = (omega arith, l)
-  thread-results lo hi most l h (t ∷ ts) zero = h t ts
-  thread-results lo hi most l h (t ∷ ts) (suc i) = go (Rules.onThread f ts i) (thread-results lo hi most l h ts i)
+  thread-results lo hi N l h [] i = l
+  thread-results lo hi N l h (t ∷ ts) zero = h t ts
+  thread-results lo hi N l h (t ∷ ts) (suc i) = go (Rules.onThread f ts i) (thread-results lo hi N l h ts i)
     where
-      go : (x : Result) → Results lo hi most x → Results lo hi most (Rules.behind t x)
+      go : (x : Result) → Results lo hi N x → Results lo hi N (Rules.behind t x)
       go (Result.made rule ts) h = h
       go (Result.refused n) h = h
 
@@ -566,12 +569,13 @@ module _ (f : Thread → List Thread → Result) where
 -- what a choice can make or be refused
 abbrev pub ChoiceOf : ℕ → Result → Type 0
 ChoiceOf kind (Result.made rule p) = RuleOf kind rule
-ChoiceOf kind (Result.refused n) = Within No.kind No.threads n
+ChoiceOf kind (Result.refused n) = RefusalOf kind n
 
 pub step-of : (P : Program) → Limits P → (p : Pool) (i : ℕ) → StepOf (choice P p 0 i)
 unfolding choice Rules.step
 step-of P L p i =
-    thread-results (Rules.step P) No.stmt No.prom No.stuck (omega arith) (λ t ts. apply-results P t ts _ (act-acts L (t .newest))) p i
+    thread-results (Rules.step P) No.stmt No.prom StepRefusal (refuses No.thread refl)
+    (λ t ts. apply-results P t ts _ (act-acts L (t .newest))) p i
 
 pub choice-of : (P : Program) → Limits P → (p : Pool) (kind i : ℕ) → ChoiceOf kind (choice P p kind i)
 unfolding choice
@@ -579,19 +583,21 @@ choice-of P L p zero i = go (choice P p 0 i) (step-of P L p i)
   where
     go : (x : Result) → StepOf x → ChoiceOf 0 x
     go (Result.made rule q) h = inl (refl, h)
-    go (Result.refused n) h = (omega arith, omega arith)
+    go (Result.refused n) (inl w) = inl (omega arith, omega arith)
+    go (Result.refused n) (inr e) = inr (refl, e)
 choice-of P L p (suc zero) i =
-    go (Rules.onThread f p i) (thread-results f No.promote No.promote No.threads (omega arith) (promote-results P _) p i)
+    go (Rules.onThread f p i)
+    (thread-results f No.promote No.promote (Within No.thread No.threads) (omega arith, omega arith) (promote-results P _) p i)
   where
     f : Thread → List Thread → Result
     f = Rules.promote P (ltb (length p) mostThreads)
 
     go : (x : Result) → PromotionOf x → ChoiceOf 1 x
     go (Result.made rule q) h = inr (refl, omega arith)
-    go (Result.refused n) h = (omega arith, omega arith)
-choice-of P L p (suc (suc kind)) i = tested No.kind No.threads No.kind refl
+    go (Result.refused n) h = inl (omega arith, omega arith)
+choice-of P L p (suc (suc kind)) i = inl (tested No.kind No.threads No.kind refl)
 
--- the refusals of the other calls: the check's; the start's, the table's and 12; those of a call on a pool, 13 too; and 14 to 21
+-- the refusals of the other calls: the check's; the start's, the table's and 12; those of a call on a pool, 13 too; and a choice's
 pub data OfCheck (s : List ℕ) : Refusal → Type 0 where
   table : {q : Refusal} → OfTable s q → OfCheck s q
   program : {q : Refusal} {P : Program} → read s ≡ Answer.given P → Faults P q → OfCheck s q
@@ -604,9 +610,9 @@ pub data OfLent (s : List ℕ) : Refusal → Type 0 where
   start : {q : Refusal} → OfStart s q → OfLent s q
   pool : OfLent s (Refusal.plain No.pool)
 
-pub data OfChoice (s : List ℕ) : Refusal → Type 0 where
-  lends : {q : Refusal} → OfLent s q → OfChoice s q
-  chosen : {n : ℕ} → Within No.kind No.threads n → OfChoice s (Refusal.plain n)
+pub data OfChoice (s : List ℕ) (kind : ℕ) : Refusal → Type 0 where
+  lends : {q : Refusal} → OfLent s q → OfChoice s kind q
+  chosen : {n : ℕ} → RefusalOf kind n → OfChoice s kind (Refusal.plain n)
 
 module _ (s : List ℕ) where
   pub check-can : Can Any (OfCheck s) (check s)
@@ -649,15 +655,15 @@ module _ (s : List ℕ) (ws : List ℤ) where
       can-with Any (read s) _ (read-can s) (λ q h. OfLent.start (OfStart.table h)) λ P e.
       can-with Any (Calls.measured ws) _ measured-can (λ q h. OfLent.start h) λ _ f. valid-can P
 
-  pub choose-can : (kind i : ℕ) → Can (RuleOf kind) (OfChoice s) (Calls.choose s ws kind i .answer)
+  pub choose-can : (kind i : ℕ) → Can (RuleOf kind) (OfChoice s kind) (Calls.choose s ws kind i .answer)
   unfolding Calls.choose Calls.chosen Calls.made
   choose-can kind i = go (lent s ws) refl lent-can
     where
-      on : (x : Result) → ChoiceOf kind x → Can (RuleOf kind) (OfChoice s) (Calls.made ws x .answer)
+      on : (x : Result) → ChoiceOf kind x → Can (RuleOf kind) (OfChoice s kind) (Calls.made ws x .answer)
       on (Result.made rule p) h = h
       on (Result.refused n) h = OfChoice.chosen h
 
-      go : (a : Answer Lent) → lent s ws ≡ a → Can Any (OfLent s) a → Can (RuleOf kind) (OfChoice s) (Calls.chosen ws a kind i .answer)
+      go : (a : Answer Lent) → lent s ws ≡ a → Can Any (OfLent s) a → Can (RuleOf kind) (OfChoice s kind) (Calls.chosen ws a kind i .answer)
       go (Answer.given l) e h =
           on (choice (l .table) (l .pool) kind i)
           (choice-of (l .table) (read-limits s (l .table) (lent-given s ws l e .reads)) (l .pool) kind i)
@@ -737,7 +743,7 @@ run-of P p (c ∷ cs) = go (choice P p (c .kind) (c .thread)) refl (λ p′. run
 -- the choice behind those made was refused, as it is by the words that they left
 pub data OfSchedule (s : List ℕ) (ws : List ℤ) (cs : List Choice) : Refusal → ℕ → List ℤ → Type 0 where
   lends : {q : Refusal} → OfLent s q → OfSchedule s ws cs q 0 ws
-  chosen : {n made : ℕ} {ws′ : List ℤ} → Within No.kind No.threads n → (c : Choice) → getElem? cs made ≡ some c →
+  chosen : {n made : ℕ} {ws′ : List ℤ} (c : Choice) → RefusalOf (c .kind) n → getElem? cs made ≡ some c →
       Calls.choose s ws′ (c .kind) (c .thread) .answer ≡ Answer.refused (Refusal.plain n) → OfSchedule s ws cs (Refusal.plain n) made ws′
 
 abbrev pub ScheduleCan : List ℕ → List ℤ → List Choice → Calls.Scheduled → Type 0
@@ -755,9 +761,9 @@ schedule-can s ws cs = go (lent s ws) refl (lent-can s ws)
             Can {A = Unit {0}} (λ _. r .made ≡ length cs) (λ q. OfSchedule s ws cs q (r .made) (Pool.wordsOf (r .pool))) (Calls.stopped o)
         ended none h = h
         ended (some n) (c, there, q) =
-            let w : Within No.kind No.threads n = rw q at (choice-of P (read-limits s P e) (r .pool) (c .kind) (c .thread)) in
+            let w : RefusalOf (c .kind) n = rw q at (choice-of P (read-limits s P e) (r .pool) (c .kind) (c .thread)) in
             let m = choose-lent s (Pool.wordsOf (r .pool)) (c .kind) (c .thread) (lent-words s P (r .pool) e v) in
-            OfSchedule.chosen w c there (ap (λ (d : Calls.Called ℕ). d .answer) (m ∙ ap (Calls.made (Pool.wordsOf (r .pool))) q))
+            OfSchedule.chosen c w there (ap (λ (d : Calls.Called ℕ). d .answer) (m ∙ ap (Calls.made (Pool.wordsOf (r .pool))) q))
 
     go : (a : Answer Lent) → lent s ws ≡ a → Can Any (OfLent s) a → ScheduleCan s ws cs (Calls.scheduled ws a cs)
     go (Answer.given l) e h =

@@ -54,7 +54,7 @@ rows =
     row (set A 5 0) ("refused 3 5" ∷ []) false ∷
     row (set A 6 1) ("refused 4 0 255" ∷ []) false ∷
     row (set A 29 1) ("refused 8 0 0" ∷ []) false ∷
-    -- B unpromoted, promoted, and waiting; swapped arguments; the least value; eight frames; no values
+    -- B unpromoted, promoted, and waiting; swapped arguments; an overflow; eight frames; no values
     row (B ++ (0 ∷ 0 ∷ 0 ∷ 0 ∷ 0 ∷ 0 ∷ [])) ("accepted" ∷ "0 step 0 spork" ∷ "1 step 0 unpr" ∷ "2 step 0 stmt" ∷ "result 1" ∷ []) true ∷
     row (B ++ (0 ∷ 0 ∷ 1 ∷ 0 ∷ 0 ∷ 1 ∷ 0 ∷ 0 ∷ []))
     ("accepted" ∷ "0 step 0 spork" ∷ "1 promote 0 promote" ∷ "2 step 1 stmt" ∷ "3 step 0 prom" ∷ "result 7" ∷ []) true ∷
@@ -62,7 +62,7 @@ rows =
     ("accepted" ∷ "0 step 0 spork" ∷ "1 promote 0 promote" ∷ "2 step 0 refused 17" ∷ "result open" ∷ []) false ∷
     row (swapped ++ replicate 10 0)
     ("accepted" ∷ "0 step 0 stmt" ∷ "1 step 0 stmt" ∷ "2 step 0 goto" ∷ "3 step 0 goto" ∷ "4 step 0 goto" ∷ "result 2 1" ∷ []) true ∷
-    row (sum ++ (0 ∷ 0 ∷ [])) ("accepted" ∷ "0 step 0 stmt" ∷ "result -2147483648" ∷ []) true ∷
+    row (sum ++ (0 ∷ 0 ∷ [])) ("accepted" ∷ "0 step 0 refused 29" ∷ "result open" ∷ []) false ∷
     row (recursive ++ replicate 16 0)
     ("accepted" ∷ "0 step 0 call" ∷ "1 step 0 call" ∷ "2 step 0 call" ∷ "3 step 0 call" ∷ "4 step 0 call" ∷ "5 step 0 call"
     ∷ "6 step 0 call" ∷ "7 step 0 refused 18" ∷ "result open" ∷ [])

@@ -27,7 +27,7 @@ use Rattle.model.specs.Calls.{Choice, check, start, choose, schedule, va
 
 -- every definition that a run computes with
 unfoldable pub all : Type 0
-unfolding Answers.numberOf Answers.with Lists.all Lists.equal Lists.unsnoc Lists.pad Lists.concat Values.low Values.wrap Values.plus
+unfolding Answers.numberOf Answers.with Lists.all Lists.equal Lists.unsnoc Lists.pad Lists.concat Values.low Values.fits Values.worked Values.plus
     Values.minus Values.less Sets.has Sets.with Sets.withAll Sets.within Sets.below Syntax.usesAtom Syntax.uses Read.next Read.byte
     Read.many Read.counted Read.pick Read.name Read.half Read.word Read.temporary Read.arguments Read.value Read.variable Read.atom
     Read.unary Read.binary Read.expression Read.statement Read.goto Read.if Read.call Read.return Read.spork Read.spoin Read.transfer
@@ -38,7 +38,7 @@ unfolding Answers.numberOf Answers.with Lists.all Lists.equal Lists.unsnoc Lists
     Pool.countAt Pool.frameOf Pool.threadOf Pool.poolOf Pool.sameWords Pool.functionOf Pool.blockIn Pool.blockOf Pool.blank Pool.inBlock
     Pool.inFunction Pool.isFrame Pool.isOlder Pool.settled Pool.ordered Pool.isPurse Pool.isThread Pool.children Pool.trees Pool.isPool
     Pool.arePool Pool.started Frames.when Frames.look Frames.lookAll Frames.evalAtom Frames.eval Frames.bind Frames.bindAll Frames.goTo
-    Frames.deque Frames.entering Frames.enter Frames.callee Rules.by Rules.acts Rules.stmt Rules.goto Rules.branch Rules.if Rules.call
+    Frames.deque Frames.entering Frames.enter Frames.callee Rules.by Rules.acts Rules.carry Rules.assign Rules.stmt Rules.goto Rules.branch Rules.if Rules.call
     Rules.return Rules.spork Rules.closing Rules.spoin Rules.transfer Rules.coming Rules.act Rules.returned Rules.ended Rules.onTop
     Rules.popping Rules.joining Rules.joins Rules.apply Rules.step Rules.promoteIn Rules.orElse Rules.oldest Rules.child Rules.spawned
     Rules.promoting Rules.promote Rules.behind Rules.onThread Rules.choice Rules.mainValues Calls.check Calls.measured Calls.valid
@@ -336,7 +336,7 @@ rows =
     -- goto with swapped arguments; 2147483647 + 1; rows 5, 11, 17, 18, 19
     Row.played swapped (step 0 ∷ step 0 ∷ step 0 ∷ step 0 ∷ step 0 ∷ [])
     (makes No.stmt ∷ makes No.stmt ∷ makes No.goto ∷ makes No.goto ∷ makes No.goto ∷ []) (some (pos 2 ∷ pos 1 ∷ [])) ∷
-    Row.played sum (step 0 ∷ []) (makes No.stmt ∷ []) (some (negsuc 2147483647 ∷ [])) ∷
+    Row.played sum (step 0 ∷ []) (refuses No.overflow ∷ []) none ∷
     Row.checked (set A 12 1) (at No.entry 0 0) ∷
     Row.checked unjoined (at No.nesting 0 1) ∷
     Row.played B (step 0 ∷ promote 0 ∷ step 0 ∷ []) (makes No.spork ∷ makes No.promote ∷ refuses No.waits ∷ []) (none) ∷
@@ -411,9 +411,9 @@ rows =
     (makes No.spork ∷ makes No.spork ∷ makes No.spork ∷ makes No.spork ∷ makes No.call ∷ makes No.spork ∷ makes No.spork
     ∷ makes No.spork ∷ makes No.spork ∷ makes No.promote ∷ makes No.promote ∷ makes No.promote ∷ makes No.promote ∷ makes No.promote
     ∷ makes No.promote ∷ makes No.promote ∷ refuses No.threads ∷ []) (none) ∷
-    -- negations: of 5, and of the least value, which is its own
+    -- negations: of 5, and of the least value, which overflows
     Row.played negated (step 0 ∷ []) (makes No.stmt ∷ []) (some (negsuc 4 ∷ [])) ∷
-    Row.played (set (set negated 18 0x80) 21 0x00) (step 0 ∷ []) (makes No.stmt ∷ []) (some (negsuc 2147483647 ∷ [])) ∷
+    Row.played (set (set negated 18 0x80) 21 0x00) (step 0 ∷ []) (refuses No.overflow ∷ []) none ∷
     []
 
 -- every row is right

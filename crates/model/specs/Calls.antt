@@ -59,7 +59,7 @@ starting ws (Answer.refused r) = record { answer = Answer.refused r; after = ws 
 unfoldable pub start : List ℕ → List ℤ → Called (Unit {0})
 start s ws = starting ws (lentWords s ws)
 
--- a single choice: 1 to 3, 12, 13, 14 to 21, or the rule. A refusal leaves the words as they were
+-- a single choice: 1 to 3, 12, 13, 14 to 21 or 29, or the rule. A refusal leaves the words as they were
 unfoldable pub made : List ℤ → Result → Called ℕ
 made ws (Result.made rule p) = record { answer = Answer.given rule; after = wordsOf p }
 made ws (Result.refused n) = record { answer = Answer.refused (Refusal.plain n); after = ws }

@@ -1,4 +1,4 @@
--- Working on a frame: the values of temporaries, X ⊢ e ⇓ v, binding, entering a block, and a callee's first frame.
+-- Working on a frame: the values of temporaries, X ⊢ e ⇓ v or an overflow, binding, entering a block, and a callee's first frame.
 use Prim.Native.Nat.{ℕ}
 use mathlib.Core.Bool.{Bool, true, false}
 use mathlib.Core.Option.{Option, none, some}
@@ -7,6 +7,7 @@ use lib.Dec.{eqb}
 use lib.IntN.{ℤ, pos}
 use lib.ListN.{length, getD, getElem?, set}
 use Rattle.model.specs.Values as Values
+use Rattle.model.specs.Values.{Worked}
 use Rattle.model.specs.Sets.{has, with}
 use Rattle.model.specs.Syntax.{Atom, Expression, Block, Program}
 use Rattle.model.specs.Pool.{Frame, begin, blockOf}
@@ -32,13 +33,15 @@ lookAll k (x ∷ x̄) = do
   v̄ ← lookAll k x̄
   some (v ∷ v̄)
 
--- X ⊢ e ⇓ v
+-- X ⊢ e ⇓ v, or e overflows; nothing where a temporary of e is not bound
 unfoldable pub evalAtom : Frame → Atom → Option ℤ
 evalAtom k (Atom.value v) = some v
 evalAtom k (Atom.temporary x) = look k x
 
-unfoldable pub eval : Frame → Expression → Option ℤ
-eval k (Expression.atom m) = evalAtom k m
+unfoldable pub eval : Frame → Expression → Option Worked
+eval k (Expression.atom m) = do
+  v ← evalAtom k m
+  some (Worked.value v)
 eval k (Expression.minus m) = do
   v ← evalAtom k m
   some (Values.minus v)
@@ -49,7 +52,7 @@ eval k (Expression.plus m n) = do
 eval k (Expression.less m n) = do
   v ← evalAtom k m
   w ← evalAtom k n
-  some (Values.less v w)
+  some (Worked.value (Values.less v w))
 
 -- X[x ↪ v], X[ȳ ↪ v̄]: all values were read before; a repeated parameter keeps the last
 unfoldable pub bind : Frame → ℕ → ℤ → Frame

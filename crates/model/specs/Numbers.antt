@@ -97,6 +97,10 @@ pace = 27
 abbrev pub listing : ℕ
 listing = 28
 
+-- a step whose expression overflows (29)
+abbrev pub overflow : ℕ
+overflow = 29
+
 -- the rules (1 to 10), in the order of document 01
 abbrev pub stmt : ℕ
 stmt = 1
@@ -135,3 +139,10 @@ Within lo hi n = (lo ≤ n) × (n ≤ hi)
 -- a step makes one of the rules 1 to 9, a promotion rule 10, and no other kind of choice a rule
 abbrev pub RuleOf : ℕ → ℕ → Type 0
 RuleOf kind rule = ((kind ≡ 0) × Within stmt prom rule) ⊎ ((kind ≡ 1) × (rule ≡ promote))
+
+-- a step is refused with one of 15 to 19 or with 29; a choice with one of 14 to 21, and a step alone with 29
+abbrev pub StepRefusal : ℕ → Type 0
+StepRefusal n = Within thread stuck n ⊎ (n ≡ overflow)
+
+abbrev pub RefusalOf : ℕ → ℕ → Type 0
+RefusalOf k n = Within kind threads n ⊎ ((k ≡ 0) × (n ≡ overflow))

@@ -1,4 +1,4 @@
--- Figure 3: the ten rules, for any table that reads; what ends a thread; the refusals 14 to 21.
+-- Figure 3: the ten rules, for any table that reads; what ends a thread; the refusals 14 to 21 and 29.
 use Prim.Native.Nat.{ℕ, zero, suc, _+_, _-_}
 use mathlib.Core.Bool.{Bool, true, false, cond}
 use mathlib.Core.Option.{Option, none, some, Option·map}
@@ -8,7 +8,7 @@ use lib.IntN.{ℤ, pos}
 use lib.ListN.{length, getElem?}
 use Rattle.model.specs.Numbers as No
 use Rattle.model.specs.Lists.{unsnoc, equal}
-use Rattle.model.specs.Values.{same}
+use Rattle.model.specs.Values.{Worked, same}
 use Rattle.model.specs.Syntax.{Expression, Statement, Transfer, Block, Program}
 use Rattle.model.specs.Pool.{Frame, Thread, Pool, mostCalls, mostFrames, mostThreads, frames, born, restacked, functionOf, blockOf}
 use Rattle.model.specs.Frames.{_>>=_, when, lookAll, eval, bind, goTo, deque, enter, callee}
@@ -31,11 +31,19 @@ unfoldable pub acts : Option Act → Act
 acts none = Act.refuse No.stuck
 acts (some a) = a
 
+-- an expression's value is carried on; its overflow is named, and nothing else is looked at
+unfoldable pub carry : Worked → (ℤ → Act) → Act
+carry (Worked.value v) a = a v
+carry Worked.overflow a = Act.refuse No.overflow
+
 -- stmt: X ⊢ e ⇓ v; K·⟨f, ρ, X⟩ ◇ x ← e; C ↦ K·⟨f, ρ, X[x ↪ v]⟩ ◇ C
+unfoldable pub assign : Frame → ℕ → ℤ → Act
+assign k x v = Act.stay No.stmt (goTo (bind k x v) (k .block) (k .done + 1))
+
 unfoldable pub stmt : Frame → Statement → Act
-stmt k s = by No.stmt do
-  v ← eval k (s .source)
-  some (goTo (bind k (s .target) v) (k .block) (k .done + 1))
+stmt k s = acts do
+  w ← eval k (s .source)
+  some (carry w (assign k (s .target)))
 
 -- goto: K·⟨f, ρ, X⟩ ◇ goto b(x̄) ↦ K·⟨f, ρ, X[ȳ ↪ X(x̄)]⟩ ◇ C, where block b(ȳ){C} ∈ f
 unfoldable pub goto : Program → Frame → ℕ → List ℕ → Act
@@ -50,8 +58,8 @@ branch P k b c false = by No.then (enter P k b [])
 
 unfoldable pub if : Program → Frame → Expression → ℕ → ℕ → Act
 if P k e b c = acts do
-  v ← eval k e
-  some (branch P k b c (same v (pos 0)))
+  w ← eval k e
+  some (carry w λ v. branch P k b c (same v (pos 0)))
 
 -- call: K·⟨f, ρ, X⟩ ◇ call g(x̄) ▷ b ↦ K·⟨f, ρ, X, b⟩·⟨g, ∅, [ȳ ↪ X(x̄)]⟩ ◇ C at g's entry; b is there
 unfoldable pub call : Program → Frame → ℕ → List ℕ → ℕ → Act

@@ -1,7 +1,7 @@
--- Values: signed 32-bit numbers. Sums and negations keep the low 32 bits.
+-- Values: signed 32-bit numbers. A sum or a negation that does not fit in 32 bits is an overflow.
 use Prim.Native.Nat.{ℕ, suc, _-_, _^_, _%_}
 use mathlib.Core.Bool.{Bool, false, cond}
-use lib.Dec.{eqb}
+use lib.Dec.{eqb, ltb}
 use lib.IntN.{ℤ, pos, negsuc, _+ℤ_, negℤ}
 use lib.Signed.{ltZ}
 use mir.Syntax.{w32}
@@ -16,16 +16,25 @@ low (negsuc n) = 2 ^ 32 - suc (n % 2 ^ 32)
 abbrev pub signed : ℕ → ℤ
 signed n = toZ w32 n
 
--- the value that has the low 32 bits of z
-unfoldable pub wrap : ℤ → ℤ
-wrap z = signed (low z)
+-- does z fit in 32 bits: is it one of -2 ^ 31 to 2 ^ 31 - 1?
+unfoldable pub fits : ℤ → Bool
+fits (pos n) = ltb n (2 ^ 31)
+fits (negsuc n) = ltb n (2 ^ 31)
+
+-- what working out an expression gives: a value, or an overflow
+pub data Worked : Type 0 where
+  value : ℤ → Worked
+  overflow : Worked
+
+unfoldable pub worked : ℤ → Worked
+worked z = cond (fits z) (Worked.value z) Worked.overflow
 
 -- m + n, -m, and m < n as 1 or 0
-unfoldable pub plus : ℤ → ℤ → ℤ
-plus m n = wrap (m +ℤ n)
+unfoldable pub plus : ℤ → ℤ → Worked
+plus m n = worked (m +ℤ n)
 
-unfoldable pub minus : ℤ → ℤ
-minus m = wrap (negℤ m)
+unfoldable pub minus : ℤ → Worked
+minus m = worked (negℤ m)
 
 unfoldable pub less : ℤ → ℤ → ℤ
 less m n = cond (ltZ m n) (pos 1) (pos 0)

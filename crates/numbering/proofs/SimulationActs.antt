@@ -9,12 +9,12 @@ use lib.IntN.{ℤ, pos}
 use lib.ListN.{length, getElem?, length-map}
 use Rattle.model.specs.Numbers as No
 use Rattle.model.specs.Lists.{Each, Snoc, snoc, unsnoc, equal}
-use Rattle.model.specs.Values.{same}
+use Rattle.model.specs.Values.{Worked, same}
 use Rattle.model.specs.Syntax.{Atom, Expression, Statement, Transfer, Program, targets, sporkedBy, calledBy}
 use Rattle.model.specs.Pool.{Frame, mostCalls, begin, functionOf, blockIn, blockOf}
 use Rattle.model.specs.Frames.{_>>=_, look, lookAll, evalAtom, eval, bind, bindAll, goTo, deque, entering, enter, callee}
 use Rattle.model.specs.Rules
-use Rattle.model.specs.Rules.{Act, by, acts, act}
+use Rattle.model.specs.Rules.{Act, by, acts, carry, act}
 use Rattle.model.proofs.Facts.{each-append, each-left, each-right, unsnoc-some}
 use Rattle.numbering.specs.Renamed as Renamed
 use Rattle.numbering.specs.Mentions.{targetsOf, spawnsOf}
@@ -72,7 +72,7 @@ module _ (R : Numbering) where
 
   eval-renamed : (k : Frame) (e : Expression) → eval (renamedFrame R k) e ≡ eval k e
   unfolding eval
-  eval-renamed k (Expression.atom m) = evalAtom-renamed k m
+  eval-renamed k (Expression.atom m) = rw (evalAtom-renamed k m)
   eval-renamed k (Expression.minus m) = rw (evalAtom-renamed k m)
   eval-renamed k (Expression.plus m n) = rw (evalAtom-renamed k m, evalAtom-renamed k n)
   eval-renamed k (Expression.less m n) = rw (evalAtom-renamed k m, evalAtom-renamed k n)
@@ -114,6 +114,13 @@ module _ (R : Numbering) where
   unfolding acts renamedAct
   acts-follows none o′ h = record { same = rw (h .same); kept = tt }
   acts-follows (some a) o′ h = record { same = rw (h .same); kept = h .kept }
+
+  -- what an expression is carried on to: an overflow is one under both
+  carry-follows : (w : Worked) (a a′ : ℤ → Act) → ((v : ℤ) → Follows (renamedAct R) (KeptAct R) (a v) (a′ v)) →
+      Follows (renamedAct R) (KeptAct R) (carry w a) (carry w a′)
+  unfolding carry renamedAct
+  carry-follows (Worked.value v) a a′ h = h v
+  carry-follows Worked.overflow a a′ h = record { same = refl; kept = tt }
 
 -- where Q has what is kept of P
 module _ {R : Numbering} {P Q : Program} (c : Copies R P Q) where
@@ -169,12 +176,14 @@ module _ {R : Numbering} {P Q : Program} (c : Copies R P Q) where
 
     -- one law a rule
     stmt-follows : (s : Statement) → Does (Rules.stmt k s) (Rules.stmt (renamedFrame R k) s)
-    unfolding Rules.stmt goTo bind renamedFrame
+    unfolding Rules.stmt Rules.assign goTo bind renamedFrame renamedAct
     stmt-follows s =
-        by-follows R No.stmt _ _
+        acts-follows R _ _
         (rw (eval-renamed R k (s .source))
-        (follows-bind (renamedFrame R) (KeptFrame R) (eval k (s .source)) _ _ λ v _.
-        record { same = refl; kept = record { function = h .function; block = h .block; calls = h .calls } }))
+        (follows-bind (renamedAct R) (KeptAct R) (eval k (s .source)) _ _ λ w _.
+        follows-some (renamedAct R) (KeptAct R)
+        (carry-follows R w _ _ λ v.
+        record { same = refl; kept = record { function = h .function; block = h .block; calls = h .calls } })))
 
     goto-follows : (b : ℕ) (x̄ : List ℕ) → BlockKept R (k .function) b →
         Does (Rules.goto P k b x̄) (Rules.goto Q (renamedFrame R k) (R .block (k .function) b) x̄)
@@ -196,8 +205,8 @@ module _ {R : Numbering} {P Q : Program} (c : Copies R P Q) where
     if-follows e b d q r =
         acts-follows R _ _
         (rw (eval-renamed R k e)
-        (follows-bind (renamedAct R) (KeptAct R) (eval k e) _ _ λ v _.
-        follows-some (renamedAct R) (KeptAct R) (branch-follows b d (same v (pos 0)) q r)))
+        (follows-bind (renamedAct R) (KeptAct R) (eval k e) _ _ λ w _.
+        follows-some (renamedAct R) (KeptAct R) (carry-follows R w _ _ λ v. branch-follows b d (same v (pos 0)) q r)))
 
     call-follows : (g : ℕ) (x̄ : List ℕ) (b : ℕ) → FunctionKept R g → BlockKept R (k .function) b →
         Does (Rules.call P k g x̄ b) (Rules.call Q (renamedFrame R k) (R .function g) x̄ (R .block (k .function) b))

@@ -10,13 +10,13 @@ use lib.IntN.{ℤ, pos}
 use lib.ListN.{length, getElem?, take}
 use Rattle.model.specs.Numbers as No
 use Rattle.model.specs.Lists.{Snoc, unsnoc, equal}
-use Rattle.model.specs.Values.{same}
+use Rattle.model.specs.Values.{Worked, same}
 use Rattle.model.specs.Syntax.{Expression, Statement, Transfer, Head, Block, Program}
 use Rattle.model.specs.Pool.{Frame, blockOf}
 use Rattle.model.specs.Frames as Frames
 use Rattle.model.specs.Frames.{when, lookAll, eval, goTo, callee}
 use Rattle.model.specs.Rules as Rules
-use Rattle.model.specs.Rules.{by, acts, stmt, goto, branch, if, call, return, spork, closing, spoin, transfer, coming, act, returned}
+use Rattle.model.specs.Rules.{by, acts, carry, assign, stmt, goto, branch, if, call, return, spork, closing, spoin, transfer, coming, act, returned}
 use Rattle.places.specs.declared.Place.{Place}
 use Rattle.places.specs.declared.Place.the-variants.{At, Nowhere}
 use Rattle.places.specs.Places.{FindsCode}
@@ -37,9 +37,17 @@ unfolding returned by
 by-runs rule none = refl
 by-runs rule (some k) = refl
 
+-- what an expression is carried on to returns nothing where its values' acts do not
+carried-runs : (o : Option Worked) (a : ℤ → Rules.Act) → ((v : ℤ) → returned [] (a v) ≡ none)
+    → returned [] (acts (Frames._>>=_ o (λ w. some (carry w a)))) ≡ none
+unfolding returned acts carry
+carried-runs none a h = refl
+carried-runs (some (Worked.value v)) a h = h v
+carried-runs (some Worked.overflow) a h = refl
+
 stmt-runs : (m : Frame) (t : Statement) → returned [] (stmt m t) ≡ none
-unfolding stmt
-stmt-runs m t = by-runs No.stmt _
+unfolding stmt assign returned
+stmt-runs m t = carried-runs (eval m (t .source)) (assign m (t .target)) (λ v. refl)
 
 branch-runs : (P : Program) (m : Frame) (b c : ℕ) (t : Bool) → returned [] (branch P m b c t) ≡ none
 unfolding branch
@@ -47,12 +55,8 @@ branch-runs P m b c true = by-runs No.else _
 branch-runs P m b c false = by-runs No.then _
 
 if-runs : (P : Program) (m : Frame) (e : Expression) (b c : ℕ) → returned [] (if P m e b c) ≡ none
-unfolding if acts returned
-if-runs P m e b c = go (eval m e)
-  where
-    go : (o : Option ℤ) → returned [] (acts (Frames._>>=_ o (λ v. some (branch P m b c (same v (pos 0)))))) ≡ none
-    go none = refl
-    go (some v) = branch-runs P m b c (same v (pos 0))
+unfolding if
+if-runs P m e b c = carried-runs (eval m e) _ (λ v. branch-runs P m b c (same v (pos 0)))
 
 call-runs : (P : Program) (m : Frame) (g : ℕ) (x̄ : List ℕ) (b : ℕ) → returned [] (call P m g x̄ b) ≡ none
 unfolding call acts returned

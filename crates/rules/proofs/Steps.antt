@@ -15,17 +15,17 @@ use lib.IntN.{ℤ, pos}
 use lib.ListN.{length, getElem?, take}
 use Rattle.model.specs.Numbers as No
 use Rattle.model.specs.Lists.{Each, Snoc, snoc, unsnoc, equal}
-use Rattle.model.specs.Values.{same}
+use Rattle.model.specs.Values.{Worked, same}
 use Rattle.model.specs.Syntax.{Transfer, Head, Block, Program}
 use Rattle.model.specs.Pool.{Frame, temporaries, mostCalls, begin, functionOf, blockOf}
 use Rattle.model.specs.Frames as Frames
 use Rattle.model.specs.Frames.{when, lookAll, eval, bindAll, goTo, deque, enter, callee}
 use Rattle.model.specs.Rules as Rules
-use Rattle.model.specs.Rules.{by, acts, stmt, goto, branch, if, call, return, spork, closing, spoin, transfer, coming, act}
+use Rattle.model.specs.Rules.{by, acts, carry, assign, stmt, goto, branch, if, call, return, spork, closing, spoin, transfer, coming, act}
 use Rattle.model.specs.Limits.{InStatement}
 use Rattle.model.proofs.Facts.{each-at, past-at}
 use Rattle.model.proofs.Guarantees as Guarantees
-use Rattle.words.proofs.Wrapping.{zero-test}
+use Rattle.words.proofs.Signs.{zero-test}
 use Rattle.places.specs.declared.Place.{Place}
 use Rattle.places.specs.declared.Place.the-variants.{At, Nowhere}
 use Rattle.places.specs.Places.{spawnIn, Places, FindsBlock, FindsSpawn, FindsCode}
@@ -33,16 +33,16 @@ use Rattle.code.specs.Bytes.{byteAt, past}
 use Rattle.code.specs.Code.{most, countAt, argumentsAt, listEnd, expressionAt, expressionEnd, statementAt, statementsEnd, headAt, headEnd}
 use Rattle.code.specs.Code.{gotoAt, ifAt, callAt, returnAt, sporkAt, spoinAt, transferOf, transferAt, codeAt, codeEnd, coded, blockAt}
 use Rattle.eval.specs.declared.Evaluated.{Evaluated}
-use Rattle.eval.specs.declared.Evaluated.the-variants.{Value, Unbound}
+use Rattle.eval.specs.declared.Evaluated.the-variants.{Value, Overflow, Unbound}
 use Rattle.eval.specs.Given.{optional, evaluatedAs, filled, Looks}
-use Rattle.eval.proofs.Leaves.{none-is, value-is}
+use Rattle.eval.proofs.Leaves.{unbound-is, overflow-is, worked-is}
 use Rattle.eval.proofs.Lists.{count-bound}
 use Rattle.eval.proofs.Buffers.{filled-none}
 use Rattle.code.proofs.Ends.{statements-length, statements-item}
 use Rattle.code.proofs.Decoding.{code-is}
 use Rattle.rules.specs.declared.Acted.{Acted}
 use Rattle.rules.specs.declared.Does.{Does}
-use Rattle.rules.specs.declared.Does.the-variants.{Bind, Enter, Open, Close, Push, Pop, Join}
+use Rattle.rules.specs.declared.Does.the-variants.{Refuse, Bind, Enter, Open, Close, Push, Pop, Join}
 use Rattle.rules.specs.Acts.{acting, jam, closed, actBy, Parameters, soundBy, Is, nextIn, nextOf, argumentsOf, Passes, Entering}
 use Rattle.rules.specs.Acts.{Enters, Takes, Transfers, Moves, Branches, Valued, NoIf, Comes, Acts}
 use Rattle.rules.proofs.Heads.{passed-length, looked-none, looked-some, spawn-then}
@@ -56,9 +56,12 @@ module _ (s : List ℕ) (m : Frame) (out : List ℤ) (r : Acted) where
   passes-none : {t : Rules.Act} → Is s m out r t → Passes s m [] out r out t
   passes-none h = record { is = h; left = filled-none m out }
 
-  -- no rule applies
+  -- a refusal by its number; no rule applies
+  refused-by : (n : ℕ) {t : Rules.Act} → r ≡ acting Refuse n 0 0 → t ≡ Rules.Act.refuse n → Is s m out r t
+  refused-by n e d = rw e (record { act = sym d; sound = tt })
+
   refused : {t : Rules.Act} → r ≡ jam → t ≡ Rules.Act.refuse No.stuck → Is s m out r t
-  refused e d = rw e (record { act = sym d; sound = tt })
+  refused e d = refused-by No.stuck e d
 
   -- a block entered by a rule with the values passed on
   entered : (P : Program) (rule f b n : ℕ) → m .function ≡ f → length (take n out) ≡ n → Entering s P f b n Enter rule r
@@ -179,29 +182,43 @@ moves : (s places : List ℕ) (m : Frame) (T : Transfer) (r : Acted) → argumen
 moves s places m T r e h = record { is = λ out. record { is = λ P p. rw e (passes-none s m out r (h P p out)) } }
 
 -- stmt, if
+abbrev carried : Option Worked → (ℤ → Rules.Act) → Option Rules.Act
+carried o a = Frames._>>=_ o (λ w. some (carry w a))
+
 module _ (statement : Bool) (s places : List ℕ) (m : Frame) (x at : ℕ) (v : Evaluated) where
-  pub valued-stuck : (r : Acted) → v ≡ Unbound → r ≡ jam → Valued statement s places m x at v r
-  unfolding transfer argumentsOf stmt if by acts
-  valued-stuck r t h =
+  -- refused by the expression alone, whatever its value would be carried on to
+  valued-refused : (r : Acted) (n : ℕ) → r ≡ acting Refuse n 0 0
+      → (v ≡ evaluatedAs (eval m (expressionAt s at)) → (a : ℤ → Rules.Act) → acts (carried (eval m (expressionAt s at)) a) ≡ Rules.Act.refuse n)
+      → Valued statement s places m x at v r
+  unfolding transfer argumentsOf stmt if
+  valued-refused r n h q =
       record {
-        stmt = λ e b l d out. refused s m out r h (rw (none-is v _ e t));
-        if = λ e b. moves s places m (ifAt s at) r refl (λ P p out. refused s m out r h (rw (none-is v _ e t)));
+        stmt = λ e b l d out. refused-by s m out r n h (q e (assign m x));
+        if = λ e b. moves s places m (ifAt s at) r refl (λ P p out. refused-by s m out r n h (q e _));
       }
+
+  pub valued-stuck : (r : Acted) → v ≡ Unbound → r ≡ jam → Valued statement s places m x at v r
+  unfolding acts
+  valued-stuck r t h = valued-refused r No.stuck h (λ e a. rw (unbound-is v _ e t))
+
+  pub valued-overflow : (r : Acted) → v ≡ Overflow → r ≡ acting Refuse No.overflow 0 0 → Valued statement s places m x at v r
+  unfolding acts carry
+  valued-overflow r t h = valued-refused r No.overflow h (λ e a. rw (overflow-is v _ e t))
 
   module _ {w : ℤ} (t : v ≡ Value w) (g : SFits w32 w) where
     pub valued-stmt : statement ≡ true
         → Valued statement s places m x at v
         (record { does = Bind; number = x; block = 0; count = 0; value = toZ w32 (ofZ w32 w); parameters = 0 })
-    unfolding stmt by
+    unfolding stmt assign acts carry
     valued-stmt b =
         record {
-          stmt = λ e b l d out. record { act = rw (toZ-ofZ g) (sym (rw (value-is v _ e t))); sound = (l, d) };
+          stmt = λ e b l d out. record { act = rw (toZ-ofZ g) (sym (rw (worked-is v _ e t))); sound = (l, d) };
           if = λ e f. absurd (true≢false (sym b ∙ f));
         }
 
     pub valued-if : (r : Acted) {i b j c : ℕ} → statement ≡ false → i ≡ expressionEnd s at → b ≡ byteAt s i → j ≡ past i 1 → c ≡ byteAt s j
         → Branches s places m b c (toZ w32 (ofZ w32 w)) r → Valued statement s places m x at v r
-    unfolding transfer argumentsOf if acts
+    unfolding transfer argumentsOf if acts carry
     valued-if r {i} {b} {j} {c} f e₂ e₃ e₄ e₅ d =
         let y₁ : byteAt s (expressionEnd s at) ≡ b = rw (← e₂) (sym e₃) in
         let y₂ : byteAt s (past (expressionEnd s at) 1) ≡ c = rw (← e₂, ← e₄) (sym e₅) in
@@ -209,7 +226,7 @@ module _ (statement : Bool) (s places : List ℕ) (m : Frame) (x at : ℕ) (v : 
           stmt = λ e b l d out. absurd (true≢false (sym b ∙ f));
           if = λ e _.
               moves s places m (ifAt s at) r refl
-              (λ P p out. is-to s m out r (d .is P p out) (sym (rw (value-is v _ e t, y₁, y₂, toZ-ofZ g))));
+              (λ P p out. is-to s m out r (d .is P p out) (sym (rw (worked-is v _ e t, y₁, y₂, toZ-ofZ g))));
         }
 
 -- return

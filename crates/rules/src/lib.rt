@@ -193,6 +193,7 @@ fn valued(
                 v,
             )
         }
+        Evaluated::Overflow => refuse(No::OVERFLOW),
         Evaluated::Unbound => stuck(),
     }
 }

@@ -1,5 +1,5 @@
--- What a typed newest frame does next: it goes on typed, calls, returns as many values as its function declares, or waits at a
--- promoted spoin. It is never stuck.
+-- What a typed newest frame does next: it goes on typed, calls, returns as many values as its function declares, waits at a promoted
+-- spoin, or overflows. It is never stuck.
 use Prim.Native.Nat.{ℕ, _+_, _-_, _≤_, _<_}
 use mathlib.Core.Path.{_≡_, refl, sym, _∙_, ap}
 use mathlib.Core.Bool.{Bool, true, false}
@@ -18,8 +18,10 @@ use Rattle.model.specs.WellFormed.{env, signatureOf, WF-cont, Innermost, WF-tra
 use Rattle.model.specs.Limits.{InBlock, InFunction, Limits}
 use Rattle.model.specs.Pool.{Frame, functionOf, mostCalls}
 use Rattle.model.specs.Frames.{when, bind, goTo, deque, enter}
-use Rattle.model.specs.Rules.{Act, by, acts, stmt, goto, branch, if, call, return, spork, closing, spoin, transfer, coming, act}
+use Rattle.model.specs.Rules.{Act, by, acts, assign, stmt, goto, branch, if, call, return, spork, closing, spoin, transfer, coming}
+use Rattle.model.specs.Rules.{act}
 use Rattle.model.proofs.Facts.{map-some, each-at, drop-some, drop-none, unsnoc-snoc, same-equal, ltb-true, ltb-false, lt-ltb}
+use Rattle.model.proofs.Kept.{on-carry}
 use Rattle.model.proofs.Sets.{Part, part-refl, part-trans, part-more, part-with, part-each}
 use Rattle.safety.proofs.Typing.{Opens, Runs, promise, own}
 use Rattle.safety.proofs.Owed.{owed-append, owed-nil, owed-last, promise-is}
@@ -36,6 +38,7 @@ pub data Does (P : Program) (F : Function) (k : Frame) : Act → Type 0 where
       own P l ≡ [] → Does P F k (Act.push k′ l)
   returns : {v̄ : List ℤ} → length v̄ ≡ F .signature .returns → own P k ≡ [] → Does P F k (Act.pop v̄)
   joins : {k′ : Frame} {c r : ℕ} → Opens P F k′ c r → own P k ≡ r ∷ own P k′ → Does P F k (Act.join k′ c)
+  overflows : Does P F k (Act.refuse No.overflow)
 
 -- a frame whose statements are done stands at a well-formed transfer
 pub at-transfer : {P : Program} {F : Function} {k : Frame} (r : Runs P F k) → getElem? (r .opens .block .code) (k .done) ≡ none →
@@ -88,8 +91,8 @@ module _ {P : Program} (W : WF-prog P) (L : Limits P) where
       does-if : (e : Expression) (b c : ℕ) → WF-transfer (env P F) Γ (k .calls) (Transfer.if e b c) → Does P F k (if P k e b c)
       unfolding WF-transfer if acts
       does-if e b c h =
-          let v = eval-bound k e (part-each (uses e) p (h .0)) in
-          rw (v .1) (does-branch b c (h .1) (h .2) (same (v .0) (pos 0)))
+          let w = eval-bound k e (part-each (uses e) p (h .0)) in
+          rw (w .1) (on-carry (Does P F k) (w .0) _ Does.overflows λ v _. does-branch b c (h .1) (h .2) (same v (pos 0)))
 
       does-call : (g : ℕ) (x̄ : List ℕ) (b : ℕ) → WF-transfer (env P F) Γ (k .calls) (Transfer.call g x̄ b) →
           Does P F k (call P k g x̄ b)
@@ -154,24 +157,25 @@ module _ {P : Program} (W : WF-prog P) (L : Limits P) where
 
   does-stmt : {F : Function} {k : Frame} (r : Runs P F k) {s : Statement} →
       getElem? (r .opens .block .code) (k .done) ≡ some s → Does P F k (stmt k s)
-  unfolding stmt by bind goTo WF-code
+  unfolding stmt acts assign bind goTo WF-code
   does-stmt {F} {k} r {s} e =
       let B = r .opens .block in
       let C = s ∷ drop (k .done + 1) (B .code) in
       let c : WF-code (env P F) (r .scope) (k .calls) C (B .transfer) = rw (drop-some (B .code) (k .done) e) at (r .code) in
-      let v = eval-bound k (s .source) (part-each (uses (s .source)) (r .bound) (c .0)) in
-      let k′ = goTo (bind k (s .target) (v .0)) (k .block) (k .done + 1) in
-      let r′ : Runs P F k′ =
+      let w = eval-bound k (s .source) (part-each (uses (s .source)) (r .bound) (c .0)) in
+      let k′ : ℤ → Frame = λ v. goTo (bind k (s .target) v) (k .block) (k .done + 1) in
+      let r′ : (v : ℤ) → Runs P F (k′ v) =
+      λ v.
       record {
         takes = r .takes;
-        opens = reopen k′ refl refl (part-more (k .bound) (s .target)) (r .opens);
+        opens = reopen (k′ v) refl refl (part-more (k .bound) (s .target)) (r .opens);
         scope = with (r .scope) (s .target);
         bound = part-with (s .target) (r .bound);
         within = part-trans (r .within) (part-more (r .scope) (s .target));
         code = c .2;
       }
       in
-      rw (v .1) (Does.stays {rule = No.stmt} (omega arith) r′ refl)
+      rw (w .1) (on-carry (Does P F k) (w .0) _ Does.overflows λ v _. Does.stays {rule = No.stmt} (omega arith) (r′ v) refl)
 
   module _ {F : Function} {k : Frame} (r : Runs P F k) (n : k .promoted ≤ length (k .calls)) where
     does-coming : (o : Option Statement) → getElem? (r .opens .block .code) (k .done) ≡ o →
@@ -180,7 +184,7 @@ module _ {P : Program} (W : WF-prog P) (L : Limits P) where
     does-coming (some s) e = does-stmt r e
     does-coming none e = does-transfer k (r .opens .function) (r .bound) n (r .opens .block .transfer) (at-transfer r e)
 
-    -- a typed newest frame does one of the four
+    -- a typed newest frame does one of the five
     pub does : Does P F k (act P k)
     unfolding act acts
     does =

@@ -8,6 +8,7 @@ use lib.IntN.{ℤ, pos}
 use lib.ListN.{length, getD, getElem?}
 use Rattle.model.specs.Lists.{Each}
 use Rattle.model.specs.Values as Values
+use Rattle.model.specs.Values.{Worked}
 use Rattle.model.specs.Sets.{withAll, below, _∈_}
 use Rattle.model.specs.Syntax.{Atom, Expression, Head, Block, Signature, Function, Program, usesAtom, uses}
 use Rattle.model.specs.WellFormed.{env, headOf, signatureOf, Callee, WF-cont, WF-block, WF-fun, WF-prog}
@@ -46,9 +47,11 @@ unfolding usesAtom evalAtom
 atom-bound k (Atom.value v) h = (v, refl)
 atom-bound k (Atom.temporary x) h = (getD (k .values) x (pos 0), look-bound k x (h .0))
 
-pub eval-bound : (k : Frame) (e : Expression) → Bound k (uses e) → (v : ℤ) × (eval k e ≡ some v)
+pub eval-bound : (k : Frame) (e : Expression) → Bound k (uses e) → (w : Worked) × (eval k e ≡ some w)
 unfolding uses eval
-eval-bound k (Expression.atom m) h = atom-bound k m h
+eval-bound k (Expression.atom m) h =
+    let r = atom-bound k m h in
+    (Worked.value (r .0), rw (r .1))
 eval-bound k (Expression.minus m) h =
     let r = atom-bound k m h in
     (Values.minus (r .0), rw (r .1))
@@ -59,7 +62,7 @@ eval-bound k (Expression.plus m n) h =
 eval-bound k (Expression.less m n) h =
     let r = atom-bound k m (each-left _ (usesAtom m) (usesAtom n) h) in
     let s = atom-bound k n (each-right _ (usesAtom m) (usesAtom n) h) in
-    (Values.less (r .0) (s .0), rw (r .1, s .1))
+    (Worked.value (Values.less (r .0) (s .0)), rw (r .1, s .1))
 
 -- the frame somewhere else in its function, with other temporaries
 abbrev pub moved : Frame → ℕ → ℕ → ℕ → List ℤ → Frame

@@ -1,5 +1,5 @@
--- Choices on a typed pool: each keeps it typed or is refused, and none is stuck. Some thread can step or is out of frames, or
--- the first thread is ended.
+-- Choices on a typed pool: each keeps it typed or is refused, and none is stuck. Some thread can step, is out of frames or overflows,
+-- or the first thread is ended.
 use Prim.Native.Nat.{ℕ, zero, suc, _≤_}
 use mathlib.Core.Path.{_≡_, refl, sym, _∙_, ap, subst}
 use mathlib.Core.Logic.{_≢_, _⊎_, inl, inr}
@@ -44,6 +44,7 @@ chosen-step : {P : Program} {t : Thread} {r : ℕ} {ts : List Thread} {rs : List
 chosen-step (Stepped.goes q w) = Chosen.goes w
 chosen-step (Stepped.ended e n) = Chosen.refuses No.ended (omega arith) (omega arith)
 chosen-step Stepped.deep = Chosen.refuses No.frames (omega arith) (omega arith)
+chosen-step Stepped.overflows = Chosen.refuses No.overflow (omega arith) (omega arith)
 chosen-step (Stepped.waits e n) = Chosen.refuses No.waits (omega arith) (omega arith)
 
 chosen-promote : {P : Program} {r : ℕ} {rs : List ℕ} {x : Result} → Promotes P r rs x → Chosen P (r ∷ rs) x
@@ -80,15 +81,17 @@ module _ {P : Program} (W : WF-prog P) (L : Limits P) where
       chosen-on P (promote P room) (λ t r ts rs y s h w. chosen-promote (promotes W y s ts rs w room)) p rs i h w
   chosen p rs (suc (suc kind)) i h w = Chosen.refuses No.kind (omega arith) (omega arith)
 
--- some thread can step, or is at a call with all frames in use
+-- some thread can step, is at a call with all frames in use, or overflows
 pub data Moving (P : Program) (p : List Thread) : Type 0 where
   makes : (i : ℕ) {rule : ℕ} {p′ : List Thread} → onThread (step P) p i ≡ Result.made rule p′ → Ordinary rule → Moving P p
   lacks : (i : ℕ) → onThread (step P) p i ≡ Result.refused No.frames → Moving P p
+  overflows : (i : ℕ) → onThread (step P) p i ≡ Result.refused No.overflow → Moving P p
 
 moving-behind : {P : Program} {t : Thread} {ts : List Thread} → Moving P ts → Moving P (t ∷ ts)
 unfolding onThread behind
 moving-behind {P} {t} (Moving.makes i e q) = Moving.makes (suc i) (ap (behind t) e) q
 moving-behind {P} {t} (Moving.lacks i e) = Moving.lacks (suc i) (ap (behind t) e)
+moving-behind {P} {t} (Moving.overflows i e) = Moving.overflows (suc i) (ap (behind t) e)
 
 -- a thread is ended, with some values
 abbrev Ended : Program → Thread → Type 0
@@ -104,15 +107,17 @@ waits-moving : {P : Program} {t : Thread} {r : ℕ} {ts : List Thread} {rs : Lis
 waits-moving (Stepped.goes q w) e f = made-refused e
 waits-moving (Stepped.ended d n) e f = absurd (omega (arith, refused-injective e))
 waits-moving Stepped.deep e f = absurd (omega (arith, refused-injective e))
+waits-moving Stepped.overflows e f = absurd (omega (arith, refused-injective e))
 waits-moving (Stepped.waits {t′ = u} s n) e f = not-ended u n (f u s)
 
--- any other is made, is out of frames, or the thread is ended
+-- any other is made, is out of frames or overflows, or the thread is ended
 step-moving : {P : Program} {t : Thread} {r : ℕ} {ts : List Thread} {rs : List ℕ} {x : Result} → Stepped P t r ts rs x →
     step P t ts ≡ x → ((u : Thread) → getElem? ts 0 ≡ some u → Moving P ts ⊎ Ended P u) → Moving P (t ∷ ts) ⊎ Ended P t
 unfolding onThread
 step-moving (Stepped.goes q w) e f = inl (Moving.makes 0 e q)
 step-moving (Stepped.ended {v̄ = v̄} d n) e f = inr (v̄, d)
 step-moving Stepped.deep e f = inl (Moving.lacks 0 e)
+step-moving Stepped.overflows e f = inl (Moving.overflows 0 e)
 step-moving (Stepped.waits {t′ = u} s n) e f = inl (moving-behind (not-ended u n (f u s)))
 
 module _ {P : Program} (W : WF-prog P) (L : Limits P) where

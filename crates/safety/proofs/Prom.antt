@@ -27,7 +27,7 @@ use Rattle.model.proofs.Facts.{refused-given, none-some, equal-same, each-at, l
 use Rattle.model.specs.Valid.{IsThread}
 use Rattle.model.proofs.Valid.{pool-facts}
 use Rattle.model.proofs.Words.{lent-given}
-use Rattle.model.proofs.Kept.{OnSome, on-bind, on-is, on-when, choose-kept}
+use Rattle.model.proofs.Kept.{OnSome, on-bind, on-is, on-when, on-carry, choose-kept}
 use Rattle.safety.specs.NeverJams.{At, Join}
 use Rattle.safety.proofs.Pools.{made-refused}
 
@@ -97,7 +97,8 @@ module _ (P : Program) (k : Frame) where
   says-transfer : (T : Transfer) → At P k T → Says P k (Rules.transfer P k T)
   unfolding Rules.transfer Rules.goto Rules.if Rules.call Rules.return Rules.spork Rules.spoin
   says-transfer (Transfer.goto b x̄) a = says-by No.goto _ (omega arith)
-  says-transfer (Transfer.if e b c) a = says-acts _ (on-bind (Says P k) (eval k e) _ λ v _. says-branch b c (same v (pos 0)))
+  says-transfer (Transfer.if e b c) a =
+      says-acts _ (on-bind (Says P k) (eval k e) _ λ w _. on-carry (Says P k) w _ tt λ v _. says-branch b c (same v (pos 0)))
   says-transfer (Transfer.call g x̄ b) a =
       says-acts _
       (on-bind (Says P k) (lookAll k x̄) _ λ v̄ _.
@@ -116,9 +117,10 @@ module _ (P : Program) (k : Frame) where
 
   says-coming : (B : Block) → blockOf P k (k .block) ≡ some B → (o : Option Statement) → getElem? (B .code) (k .done) ≡ o →
       Says P k (Rules.coming P k B o)
-  unfolding Rules.coming Rules.stmt
+  unfolding Rules.coming Rules.stmt Rules.assign
   says-coming B e none d = says-transfer (B .transfer) (record { block = B; there = e; done = d; is = refl })
-  says-coming B e (some s) d = says-by No.stmt _ (omega arith)
+  says-coming B e (some s) d =
+      says-acts _ (on-bind (Says P k) (eval k (s .source)) _ λ w _. on-carry (Says P k) w _ tt λ v _. omega arith)
 
   says : Says P k (act P k)
   unfolding act

@@ -1,5 +1,5 @@
 -- A step of a typed thread: it goes on and the threads stay typed, or the thread is ended with the values that it promised, is
--- at a call with all frames in use, or waits for its newest child.
+-- at a call with all frames in use, overflows, or waits for its newest child.
 use Prim.Native.Nat.{ℕ}
 use mathlib.Core.Path.{_≡_, refl, sym, _∙_, ap}
 use mathlib.Core.Bool.{Bool, true, false, cond}
@@ -29,6 +29,7 @@ pub data Stepped (P : Program) (t : Thread) (r : ℕ) (ts : List Thread) (rs : L
   goes : {rule : ℕ} {ts′ : List Thread} → Ordinary rule → Forest P ts′ (r ∷ rs) → Stepped P t r ts rs (Result.made rule ts′)
   ended : {v̄ : List ℤ} → Rules.ended P t ≡ some v̄ → length v̄ ≡ r → Stepped P t r ts rs (Result.refused No.ended)
   deep : Stepped P t r ts rs (Result.refused No.frames)
+  overflows : Stepped P t r ts rs (Result.refused No.overflow)
   waits : {t′ : Thread} → getElem? ts 0 ≡ some t′ → Rules.ended P t′ ≡ none → Stepped P t r ts rs (Result.refused No.waits)
 
 module _ {P : Program} (W : WF-prog P) (L : Limits P) where
@@ -44,6 +45,7 @@ module _ {P : Program} (W : WF-prog P) (L : Limits P) where
   ends-frames k [] v̄ _ (Does.calls x y z w) c e = none-some e
   ends-frames k [] v̄ _ (Does.returns n o) c e = record { many = ap length (sym (some-injective e)) ∙ n ∙ c; childless = rw o }
   ends-frames k [] v̄ _ (Does.joins x y) c e = none-some e
+  ends-frames k [] v̄ _ Does.overflows c e = none-some e
   ends-frames k (l ∷ K) v̄ a d c e = none-some e
 
   pub ends : {t : Thread} {r : ℕ} (v̄ : List ℤ) → Typed P r t → IsThread P t → Rules.ended P t ≡ some v̄ → Ends (frames t) r v̄
@@ -106,6 +108,7 @@ module _ {P : Program} (W : WF-prog P) (L : Limits P) where
     applies (Does.calls o s y z) c h w e = calls-deep o y c (rw (z, s) w) (ltb (length (frames t)) mostFrames)
     applies (Does.returns n o) c h w e = pops _ (t .older) n c (rw o at w) e
     applies (Does.joins o s) c h w e = joins-behind ts refl o c h (rw s at w)
+    applies Does.overflows c h w e = Stepped.overflows
 
     pub steps : Typed P r t → IsThread P t → Each (IsThread P) ts → Forest P ts (promised P (frames t) ++ rs) →
         Stepped P t r ts rs (step P t ts)

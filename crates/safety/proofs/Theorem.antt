@@ -16,8 +16,8 @@ use Rattle.model.proofs.Facts.{eq-eqb}
 use Rattle.model.proofs.Accepted.{check-wf}
 use Rattle.model.proofs.Guarantees.{read-limits}
 use Rattle.model.proofs.Words.{started-pool}
-use Rattle.safety.specs.NeverJams.{Call, Put, choices, Answered, Joined, Returned, CanStep, OutOfFrames, Moves, Stands, finally, Safe}
-use Rattle.safety.specs.NeverJams.{Demand3}
+use Rattle.safety.specs.NeverJams.{Call, Put, choices, Answered, Joined, Returned, CanStep, OutOfFrames, Overflows, Moves}
+use Rattle.safety.specs.NeverJams.{Stands, finally, Safe, Demand3}
 use Rattle.safety.proofs.Typing.{Typed}
 use Rattle.safety.proofs.Frames.{begins}
 use Rattle.safety.proofs.Words.{Table, Good, good-lent, good-after, good-aside, good-answered, good-joined}
@@ -91,16 +91,17 @@ module _ (s : List ℕ) (ws : List ℤ) (h : check s ≡ Answer.given tt) (n : l
   pub always-pool : (l : Lent) × (lent s (now s ws cs) ≡ Answer.given l)
   always-pool = (record { table = accepted s h .program; pool = good-now .pool }, good-lent good-now)
 
-  -- where no thread can step and none is out of frames, main has returned
-  pub still-returned : ¬ CanStep s (now s ws cs) → ¬ OutOfFrames s (now s ws cs) → Returned s (now s ws cs)
-  still-returned a b = go (good-stands good-now)
+  -- where no thread can step, none is out of frames and none overflows, main has returned
+  pub still-returned : ¬ CanStep s (now s ws cs) → ¬ OutOfFrames s (now s ws cs) → ¬ Overflows s (now s ws cs) → Returned s (now s ws cs)
+  still-returned a b c = go (good-stands good-now)
     where
       go : Stands s (now s ws cs) → Returned s (now s ws cs)
       go (inl r) = r
-      go (inr (inl c)) = absurd (a c)
-      go (inr (inr o)) = absurd (b o)
+      go (inr (inl m)) = absurd (a m)
+      go (inr (inr (inl o))) = absurd (b o)
+      go (inr (inr (inr v))) = absurd (c v)
 
-  -- where the step of a thread waits (17), some thread can step or is out of frames
+  -- where the step of a thread waits (17), some thread can step, is out of frames or overflows
   pub waiting-moves : (i : ℕ) → Calls.choose s (now s ws cs) 0 i .answer ≡ Answer.refused (Refusal.plain No.waits) →
       Moves s (now s ws cs)
   waiting-moves i e = good-waiting good-now i e

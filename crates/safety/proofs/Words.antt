@@ -164,7 +164,8 @@ module _ {s : List ℕ} {T : Table s} {ws : List ℤ} (g : Good T ws) where
   unfolding made
   moves (Moving.makes i {rule = rule} e q) =
       inl (record { thread = i; rule = rule; makes = ap (λ (c : Called ℕ). c .answer) (good-step i e); ordinary = q })
-  moves (Moving.lacks i e) = inr (record { thread = i; gets = ap (λ (c : Called ℕ). c .answer) (good-step i e) })
+  moves (Moving.lacks i e) = inr (inl (record { thread = i; gets = ap (λ (c : Called ℕ). c .answer) (good-step i e) }))
+  moves (Moving.overflows i e) = inr (inr (record { thread = i; gets = ap (λ (c : Called ℕ). c .answer) (good-step i e) }))
 
   -- where a thread waits, something moves
   pub good-waiting : (i : ℕ) → Calls.choose s ws 0 i .answer ≡ Answer.refused (Refusal.plain No.waits) → Moves s ws

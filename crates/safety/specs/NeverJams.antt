@@ -1,4 +1,4 @@
--- Demand 3, on bytes and words. A comment quotes the words of document 01 that a definition renders.
+-- Demand 3, on bytes and words. A comment quotes the words of document 01, or of a request of document 02, that a definition renders.
 use Prim.Native.Nat.{ℕ, _+_, _≤_}
 use mathlib.Core.Path.{_≡_}
 use mathlib.Core.Logic.{_≢_, _⊎_}
@@ -152,9 +152,14 @@ pub record OutOfFrames (s : List ℕ) (ws : List ℤ) : Type 0 where
   pub thread : ℕ
   pub gets : Calls.choose s ws 0 thread .answer ≡ Answer.refused (Refusal.plain No.frames)
 
--- what can go on
+-- "a thread whose next expression overflows": a step of it, put next, gets 29
+pub record Overflows (s : List ℕ) (ws : List ℤ) : Type 0 where
+  pub thread : ℕ
+  pub gets : Calls.choose s ws 0 thread .answer ≡ Answer.refused (Refusal.plain No.overflow)
+
+-- some thread can step, or is out of frames, or overflows
 abbrev pub Moves : List ℕ → List ℤ → Type 0
-Moves s ws = CanStep s ws ⊎ OutOfFrames s ws
+Moves s ws = CanStep s ws ⊎ (OutOfFrames s ws ⊎ Overflows s ws)
 
 abbrev pub Stands : List ℕ → List ℤ → Type 0
 Stands s ws = Returned s ws ⊎ Moves s ws

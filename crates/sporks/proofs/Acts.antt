@@ -19,7 +19,7 @@ use Rattle.model.specs.Rules as Rules
 use Rattle.model.specs.Rules.{Act, act}
 use Rattle.model.proofs.Facts.{each-at, drop-some, some-injective, unsnoc-some, unsnoc-snoc, equal-same}
 use Rattle.model.proofs.Sets.{Part, part-each}
-use Rattle.model.proofs.Kept.{OnSome, on-bind, on-is, on-when}
+use Rattle.model.proofs.Kept.{OnSome, on-bind, on-is, on-when, on-carry}
 use Rattle.safety.specs.NeverJams.{At}
 use Rattle.safety.proofs.Typing.{Opens, Runs}
 use Rattle.safety.proofs.Owed.{last-at}
@@ -166,7 +166,9 @@ module _ {P : Program} (W : WF-prog P) {F : Function} (k : Frame) (f : getElem? 
   leaves-transfer (Transfer.goto b x̄) a h =
       leaves-by P k No.goto _ (omega arith) (on-bind (Alike P k) (lookAll k x̄) _ λ v̄ _. enters v̄ (h .1))
   leaves-transfer (Transfer.if e b c) a h =
-      leaves-acts P k _ (on-bind (Leaves P k) (eval k e) _ λ v _. leaves-branch b c (h .1) (h .2) (same v (pos 0)))
+      leaves-acts P k _
+      (on-bind (Leaves P k) (eval k e) _ λ w _.
+      on-carry (Leaves P k) w _ tt λ v _. leaves-branch b c (h .1) (h .2) (same v (pos 0)))
   leaves-transfer (Transfer.call g x̄ b) a h =
       leaves-acts P k _
       (on-bind (Leaves P k) (lookAll k x̄) _ λ v̄ _.
@@ -187,16 +189,18 @@ module _ {P : Program} (W : WF-prog P) {F : Function} (k : Frame) (f : getElem? 
 module _ {P : Program} (W : WF-prog P) {F : Function} {k : Frame} (r : Runs P F k) where
   -- a statement binds what is not bound
   leaves-stmt : {s : Statement} → getElem? (r .opens .block .code) (k .done) ≡ some s → Leaves P k (Rules.stmt k s)
-  unfolding Rules.stmt WF-code goTo bind
+  unfolding Rules.stmt Rules.assign WF-code goTo bind
   leaves-stmt {s} e =
       let B = r .opens .block in
       let C = s ∷ drop (k .done + 1) (B .code) in
       let c : WF-code (env P F) (r .scope) (k .calls) C (B .transfer) = rw (drop-some (B .code) (k .done) e) at (r .code) in
-      leaves-by P k No.stmt _ (omega arith)
-      (on-bind (Alike P k) (eval k (s .source)) _ λ v _.
+      leaves-acts P k _
+      (on-bind (Leaves P k) (eval k (s .source)) _ λ w _.
+      on-carry (Leaves P k) w _ tt λ v _.
       let h = keeps-part (r .within) (keeps-bind k (s .target) v (c .1)) in
-      calls-kept P (r .opens .function) (keeps-trans h (keeps-goTo (bind k (s .target) v) (k .block) (k .done + 1))) (k .calls)
-      (nested-in W (r .opens)))
+      Turned.keeps {rule = No.stmt} (omega arith)
+      (calls-kept P (r .opens .function) (keeps-trans h (keeps-goTo (bind k (s .target) v) (k .block) (k .done + 1))) (k .calls)
+      (nested-in W (r .opens))))
 
   leaves-coming : (o : Option Statement) → getElem? (r .opens .block .code) (k .done) ≡ o →
       Leaves P k (Rules.coming P k (r .opens .block) o)

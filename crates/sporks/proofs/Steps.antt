@@ -136,6 +136,7 @@ module _ {P : Program} (W : WF-prog P) (t : Thread) where
   sees-apply {F} r ts (Does.returns {v̄ = v̄} n o) h c =
       sees-pop (F .signature .returns) r v̄ ts (t .older) c (ap (λ (xs : List OpenCall). openCalls P (t .older) ++ xs) h ∙ append-nil _)
   sees-apply r ts (Does.joins o s) h c = sees-join (h .0) ts o (h .1)
+  sees-apply r ts Does.overflows h c = tt
 
   pub sees-step : (L : Limits P) (r : ℕ) (ts : List Thread) → Typed P r t → IsThread P t → Sees P (t ∷ ts) 0 (Rules.step P t ts)
   unfolding Rules.step

@@ -9,7 +9,7 @@ use Rattle.model.specs.Answers.{Refusal, Answer, with}
 use Rattle.model.specs.Pool.{Purse, mostWork, mostTokens, workAt, tokensAt, threadCountAt, threadStart, wordAt}
 use Rattle.model.specs.Calls as Calls
 use Rattle.model.specs.Calls.{Choice, Called, lent}
-use Rattle.model.proofs.Runs.{all, begun, A, B, full, unfed, tree}
+use Rattle.model.proofs.Runs.{all, begun, A, B, sum, full, unfed, tree}
 use Rattle.tokens.specs.Purses.{arrive, worked, handed, kept, purseIn, endow, brought, earned, shared}
 use Rattle.tokens.specs.Beats as Beats
 use Rattle.tokens.specs.Beats.{Beat, mostN, mostC}
@@ -106,6 +106,10 @@ opened =
 
 abbrev returned : List ℤ
 returned = Calls.schedule B (begun B) (stepping 0 ∷ record { kind = 1; thread = 0 } ∷ stepping 1 ∷ []) .after
+
+-- `tree`, with 1,073,741,825 for each 1 that it sums up: the first sum of two of them overflows
+abbrev great : List ℕ
+great = set tree 67 0x40
 
 -- one token a step
 abbrev dense : List Turn
@@ -206,6 +210,8 @@ rows =
     once B (give 0 (purse 3 7) (give 1 (purse 5 5) returned)) (step 0 (makes No.prom 0 (purse 3 7 ∷ []))) ∷
     -- a promotion whose needs are unmet ends the promotions
     once unfed (begun unfed) (beat 1 1 0 (makes No.spork 0 (purse 0 1 ∷ []))) ∷
+    -- a step that overflows: nothing comes, nothing is paid
+    once sum (give 0 (purse 3 7) (begun sum)) (beat 1 1 0 (refuses No.overflow (purse 3 7 ∷ []))) ∷
     -- N and C: 27 before 15, and 12 and 13 before 27
     once A (begun A) (beat 0 1 9 (refuses No.pace (purse 0 0 ∷ []))) ∷
     once A (begun A) (beat (mostN + 1) 1 9 (refuses No.pace (purse 0 0 ∷ []))) ∷
@@ -253,6 +259,9 @@ abbrev pub runs : List Run
 runs =
     -- up to a thread that is not there; what the beats before it made stays
     ran tree (begun tree) 1 1 (0 ∷ 0 ∷ 0 ∷ 0 ∷ 0 ∷ 1 ∷ 1 ∷ 7 ∷ 0 ∷ []) (first No.thread) 7 1 (purse 0 2 ∷ purse 0 4 ∷ []) ∷
+    -- up to a step that overflows, in the midst of `dense`
+    ran great (begun great) 1 1 (0 ∷ 0 ∷ 0 ∷ 0 ∷ 0 ∷ 0 ∷ 0 ∷ 0 ∷ 1 ∷ 1 ∷ 1 ∷ 0 ∷ 3 ∷ 3 ∷ 2 ∷ 2 ∷ 2 ∷ 1 ∷ 2 ∷ 2 ∷ 2 ∷ 0 ∷ [])
+    (first No.overflow) 20 3 (purse 0 3 ∷ purse 0 3 ∷ purse 0 11 ∷ []) ∷
     -- promotions at most 3 / 2 of the steps
     ran full (begun full) 2 3 (0 ∷ 0 ∷ 0 ∷ 0 ∷ 0 ∷ 0 ∷ 0 ∷ 0 ∷ []) none 8 7
     (purse 0 1 ∷ purse 0 1 ∷ purse 0 0 ∷ purse 0 1 ∷ purse 0 0 ∷ purse 0 1 ∷ purse 0 0 ∷ purse 0 1 ∷ []) ∷

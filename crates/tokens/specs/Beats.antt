@@ -83,8 +83,8 @@ paced N C = cond (isPace N C) (Answer.given tt) (Answer.refused (Refusal.plain N
 unfoldable pub lentAt : List ℕ → List ℤ → ℕ → ℕ → Answer Lent
 lentAt s ws N C = with (lent s ws) λ l. with (paced N C) λ _. Answer.given l
 
--- a beat: 1 to 3, 12, 13, 27, then as a step, 15 to 19; or its rule and how many promotions it made. A refusal leaves the words as they
--- were
+-- a beat: 1 to 3, 12, 13, 27, then as a step, 15 to 19 or 29; or its rule and how many promotions it made. A refusal leaves the words as
+-- they were
 pub record Beat : Type 0 where
   pub rule : ℕ
   pub promotions : ℕ

@@ -18,7 +18,7 @@ use Rattle.model.specs.Lists.{all}
 use Rattle.model.specs.Sets.{has}
 use Rattle.model.specs.Pool.{blank}
 use Rattle.model.proofs.Facts.{true-false, and-true, ltb-true, ne-eqb}
-use Rattle.words.proofs.Wrapping.{zero-test}
+use Rattle.words.proofs.Signs.{zero-test}
 use Rattle.valid.specs.Judged.{beyond, plain, isZero, IsNumber}
 
 -- a word as a number

@@ -1,3 +1,3 @@
-pub mod Wrapping
+pub mod Signs
 pub mod Moves
 pub mod Sets

@@ -1,11 +1,9 @@
-// What code over numbers needs: the 32 bits of a signed word, wrapping sums, big-endian numbers, and runs of words.
+// What code over numbers needs: the 32 bits of a signed word, big-endian numbers, and runs of words.
 ghost use mathlib.Core.Path.{_≡_};
 ghost use Prim.Native.Nat.{_+_, _*_, _≤_};
-ghost use lib.IntN.{_-ℤ_};
 ghost use lib.ListN.{length};
 ghost use mir.Syntax.{w32};
 ghost use mir.Val.{ofZ, toZ};
-ghost use Rattle.model.specs.Values.{plus, minus, wrap};
 ghost use Rattle.words.specs.Runs.{pasted, moved, cleared};
 
 // The 32 bits of a signed word, as an unsigned number.
@@ -28,27 +26,6 @@ pub fn signed(n: u32) -> i32
     } else {
         -1 - ((u32::MAX - n) as i32)
     }
-}
-
-// a + b, its low 32 bits.
-pub fn wrapping_add(a: i32, b: i32) -> i32
-    ensures { λ r. ⌜ r ≡ plus a b ⌝ }
-{
-    signed(std::num::wrapping_add_u32(bits(a), bits(b)))
-}
-
-// a - b, its low 32 bits.
-fn wrapping_sub(a: i32, b: i32) -> i32
-    ensures { λ r. ⌜ r ≡ wrap (a -ℤ b) ⌝ }
-{
-    signed(std::num::wrapping_sub_u32(bits(a), bits(b)))
-}
-
-// -m, its low 32 bits: zero minus m.
-pub fn negated(m: i32) -> i32
-    ensures { λ r. ⌜ r ≡ minus m ⌝ }
-{
-    wrapping_sub(0, m)
 }
 
 // Big-endian numbers of two and of four bytes.

@@ -191,7 +191,8 @@ pub fn small(count: usize) -> Looping {
 }
 
 /// Two sporks in each other around a call, joins of two values, and all ten
-/// rules.
+/// rules. The values that go round are few, so that no sum overflows: (0, 5),
+/// (5, 3), (-3, 5) and (5, 0), one after another or the same again.
 pub fn rich(count: usize) -> Looping {
     let main = Function {
         parameters: 0,
@@ -250,7 +251,7 @@ pub fn rich(count: usize) -> Looping {
                 &[0, 1],
                 &[],
                 &[set(13, sum(name(11), name(12)))],
-                goto(1, &[13, 1]),
+                goto(1, &[0, 1]),
             ),
             block(
                 &[],

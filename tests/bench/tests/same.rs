@@ -154,6 +154,44 @@ fn same_first_threads() {
     );
 }
 
+/// Of pools in which a sum or a negation is at the limit, every step, every beat
+/// and the first thread that can step; and everything that can be at the limit
+/// occurs.
+#[test]
+fn same_overflows() {
+    let (mut seen, mut numbers) = (BTreeSet::new(), BTreeSet::new());
+    for round in 0..8_000 {
+        let rng = &mut Rng::of_round(15, round);
+        let program = match round % 3 {
+            0 => programs::accepted(rng),
+            1 => loops::looping(rng),
+            _ => programs::loose(rng),
+        };
+        let Some(pool) = pools::limited(rng, &program) else {
+            continue;
+        };
+        let (table, words) = (encode(&program), pool.to_words());
+        let first = Fast.can_step(&table, &words);
+        assert_eq!(first, which(&table, &words), "round {round}");
+        let pace = quick_pace(rng);
+        for (number, thread) in pool.threads().into_iter().enumerate() {
+            seen.extend(watch::limits(&program, number, thread));
+            let number = number as u64;
+            let (mut left, mut right) = (words.clone(), words.clone());
+            let answer = Fast.choose(&table, &mut left, STEP, number);
+            let due = Oracle.choose(&table, &mut right, STEP, number);
+            assert_eq!((answer, &left), (due, &right), "round {round}");
+            numbers.extend(answer.err().map(|refusal| refusal.number));
+            let (mut left, mut right) = (words.clone(), words.clone());
+            let answer = Fast.beat(&table, &mut left, pace, number);
+            let due = Oracle.beat(&table, &mut right, pace, number);
+            assert_eq!((answer, &left), (due, &right), "round {round}");
+        }
+    }
+    assert_eq!(seen, watch::LIMITS.into());
+    assert!(numbers.contains(&29) && numbers.contains(&19));
+}
+
 /// Of pools of every kind, and of the one with the longest listings, both
 /// listings, in outputs around their lengths; and everything that they can show
 /// occurs.

@@ -15,10 +15,11 @@ use oracle::tally::Tally;
 use oracle::{watch, Refusal, POOL_WORDS};
 
 /// What must occur, by name.
-pub const EVENTS: [&str; 3] = [RETURNED, FULL, FEWER];
+pub const EVENTS: [&str; 4] = [RETURNED, FULL, OVER, FEWER];
 
 const RETURNED: &str = "steps by the first from a fresh pool on, to main's return";
 const FULL: &str = "steps by the first from a fresh pool on, to full stacks";
+const OVER: &str = "steps by the first from a fresh pool on, to an overflow";
 const FEWER: &str = "steps by the first, of two numbers";
 
 /// A pool from which steps by the first are made.
@@ -55,8 +56,8 @@ pub fn check_lent(tally: &mut Tally, machine: &dyn Machine, rng: &mut Rng, input
 }
 
 /// Steps by the first of an accepted table, from a fresh pool to which a list of
-/// choices, promotions among them, was put. Where they end main has returned or
-/// some thread is at a call with all frames in use.
+/// choices, promotions among them, was put. Where they end main has returned, or
+/// some thread is at a call with all frames in use or overflows.
 pub fn check_started(tally: &mut Tally, machine: &dyn Machine, rng: &mut Rng, program: &Program) {
     let table = encode(program);
     let mut pool = Pool::start();
@@ -78,9 +79,18 @@ pub fn check_started(tally: &mut Tally, machine: &dyn Machine, rng: &mut Rng, pr
     let (run, left) = outset.check(tally, rng, most);
     if run.ended {
         let returned = matches!(machine.values(&table, &left, &mut [0; 4]), Ok(Some(_)));
-        let full = (0..8).any(|thread| outset.step(&left, thread) == Err(Refusal::plain(18)));
-        tally.expect(returned || full, || format!("no progress: {left:?}"));
-        tally.event(if returned { RETURNED } else { FULL });
+        let gets = |number: u8| {
+            let refusal = Err(Refusal::plain(number));
+            (0..8).any(|thread| outset.step(&left, thread) == refusal)
+        };
+        let (full, over) = (gets(18), gets(29));
+        let stands = returned || full || over;
+        tally.expect(stands, || format!("no progress: {left:?}"));
+        tally.event(match (returned, full) {
+            (true, _) => RETURNED,
+            (_, true) => FULL,
+            _ => OVER,
+        });
     }
     for event in watch::by_first(&run, true) {
         tally.event(event);

@@ -20,6 +20,7 @@ const UNREACHED: u8 = 25;
 const IMPOSSIBLE: u8 = 26;
 const PACE: u8 = 27;
 const LISTING: u8 = 28;
+const OVERFLOW: u8 = 29;
 
 fn is_given(number: u64) -> bool {
     number >> 32 & 1 == 1
@@ -50,7 +51,7 @@ pub fn beat_in(value: u32) -> (u32, u32) {
     (value & 0xFF, value >> 8)
 }
 
-/// Whether a run stopped at a beat: 15 to 19.
+/// Whether a run stopped at a beat: 15 to 19 or 29.
 pub fn run_stops(number: u64) -> bool {
     stops(number) && refused(number) != PACE
 }
@@ -88,12 +89,12 @@ pub const DEPTH: Call = call("depth", &[(1, 16)], &[(1, 11), (CYCLE, CYCLE)]);
 const TIDY: Call = call("tidy", &[LENGTHS], &[(1, 11), (ROOM, ROOM)]);
 const COMPLETE: Call = call("complete", &[LENGTHS], &[(1, 3), (LENT, IMPOSSIBLE)]);
 const START: Call = call("start", &[(0, 0)], &[(1, 3), (12, 12)]);
-const CHOOSE: Call = call("choose", &[(1, 10)], &[(1, 3), (12, 21)]);
+const CHOOSE: Call = call("choose", &[(1, 10)], &CHOICE_NUMBERS);
 pub const WHICH: Call = call("which", &[(0, 8)], &[(1, 3), (12, 13)]);
 const VALUES: Call = call("values", &[(0, 4), (OPEN, OPEN)], &[(1, 3), (12, 13)]);
 pub const OPERATOR: Call = call("operator", &[OPERATOR_LENGTHS], &LISTING_NUMBERS);
 pub const CUSTOMER: Call = call("customer", &[CUSTOMER_LENGTHS], &LISTING_NUMBERS);
-const SCHEDULE: Call = call("schedule", &[(0, 0)], &[(1, 3), (12, 21)]);
+const SCHEDULE: Call = call("schedule", &[(0, 0)], &CHOICE_NUMBERS);
 const BEAT: Call = call("beat", &BEATS, &BEAT_NUMBERS);
 const RUN: Call = call("run", &[(0, 0)], &BEAT_NUMBERS);
 
@@ -109,7 +110,14 @@ const BEATS: [(u32, u32); 8] = [
     (0x601, 0x608),
     (0x701, 0x708),
 ];
-const BEAT_NUMBERS: [(u8, u8); 4] = [(1, 3), (12, 13), (15, 19), (PACE, PACE)];
+const CHOICE_NUMBERS: [(u8, u8); 3] = [(1, 3), (12, 21), (OVERFLOW, OVERFLOW)];
+const BEAT_NUMBERS: [(u8, u8); 5] = [
+    (1, 3),
+    (12, 13),
+    (15, 19),
+    (PACE, PACE),
+    (OVERFLOW, OVERFLOW),
+];
 
 /// The lengths of listings: the line of a fresh pool, up to eight lines of 24
 /// bytes, or of 254 with all values.
@@ -209,6 +217,7 @@ const NO_START: &str = "law: a refused start leaves the words";
 const STEPS: &str = "law: a step makes one of rules 1 to 9";
 const PROMOTES: &str = "law: a promotion makes rule 10";
 const NO_CHOICE: &str = "law: a refused choice leaves the words";
+const OVER: &str = "law: 29 is a step's alone";
 const ALL_MADE: &str = "law: a given schedule made all choices";
 const NONE_MADE: &str = "law: a schedule refused below 14 made and wrote nothing";
 const STOPPED: &str = "law: the choice that stopped a schedule gets the same number";
@@ -239,7 +248,7 @@ const AROUND: &str = "law: memory around what is lent stays";
 const WRAPPED: &str = "law: the wrapper answers and writes the same";
 const OWNED: &str = "law: the wrapper's own pool answers and writes the same";
 
-const LAWS: [&str; 60] = [
+const LAWS: [&str; 61] = [
     UNUSED,
     PLACED,
     AT_BLOCK,
@@ -271,6 +280,7 @@ const LAWS: [&str; 60] = [
     STEPS,
     PROMOTES,
     NO_CHOICE,
+    OVER,
     ALL_MADE,
     NONE_MADE,
     STOPPED,
@@ -521,6 +531,9 @@ impl Laws {
         left: &[i32],
     ) {
         self.answer(&CHOOSE, table, number);
+        if !is_given(number) && refused(number) == OVERFLOW {
+            self.assert(OVER, number, choice.kind == 0);
+        }
         match choice.kind {
             _ if !is_given(number) => self.assert(NO_CHOICE, number, left == words),
             PROMOTE => self.assert(PROMOTES, number, value(number) == 10),

@@ -4,9 +4,10 @@
 //! of the memory lent; and asserts demand 3 of the library, what depths say,
 //! that a child's arguments are those of its spork, and that tidy tables answer
 //! as their tables, on random runs of accepted tables. Of any table steps by the
-//! first are made, and pools with other values listed. Tables of version 2 are completed, whose completions are known
-//! where their making tells them. Stored tables are tidied and completed too, and
-//! a pool is filled to see where each frame begins.
+//! first are made, pools with other values listed, and every step is held to the
+//! integer that it works out. Tables of version 2 are completed, whose completions
+//! are known where their making tells them. Stored tables are tidied and completed
+//! too, and a pool is filled to see where each frame begins.
 //!
 //! `compare SEED COUNT`; the last line is `compare: N passed, M failed`.
 
@@ -17,6 +18,7 @@ mod lent;
 mod library;
 mod lines;
 mod listings;
+mod overflow;
 mod purses;
 mod runs;
 mod sporks;
@@ -78,6 +80,10 @@ fn main() -> ExitCode {
         let one = [&program, &calling, &looped][round as usize % 3];
         first::check_started(&mut tally, &library, &mut rng, one);
         listings::check_lent(&mut tally, &library, &mut rng, &lent);
+        overflow::check_lent(&mut tally, &library, &mut rng, &lent);
+        for program in [one, &programs::loose(&mut rng)] {
+            overflow::check_limits(&mut tally, &library, &mut rng, program);
+        }
         library.count(&mut tally);
     }
     tally.finish()
@@ -104,6 +110,8 @@ fn events() -> Vec<String> {
     events.extend(first::EVENTS.map(String::from));
     events.extend(watch::LISTED.map(String::from));
     events.extend(listings::EVENTS.map(String::from));
+    events.extend(watch::LIMITS.map(String::from));
+    events.extend(overflow::EVENTS.map(String::from));
     let others = [FULL_SIZE, PAIR, LONG, starts::EVENT];
     events.extend(laws::events());
     events.extend(sporks::events());

@@ -5,6 +5,7 @@
 //! compared with its own. A beat counts as its step and then its promotions.
 
 use crate::listings::Listed;
+use crate::overflow::{check_choice, Worked};
 use crate::purses::{masked, purses};
 use crate::sporks::{Part, Put, Sporks};
 use oracle::beats::{beat_as, Pace};
@@ -22,7 +23,7 @@ use oracle::watch::{self, join, join_event};
 use oracle::{Refusal, POOL_WORDS};
 
 /// What must occur, by name.
-pub const EVENTS: [&str; 16] = [
+pub const EVENTS: [&str; 21] = [
     RETURNED,
     LONG,
     FULL,
@@ -39,11 +40,16 @@ pub const EVENTS: [&str; 16] = [
     NO_PACE,
     JOINED,
     SEVERAL,
+    OVER,
+    OVER_ROOMY,
+    WAITS_OVER,
+    BEAT_OVER,
+    SCHEDULE_OVER,
 ];
 
 const RETURNED: &str = "run that returned";
 const LONG: &str = "run of 1000 choices that goes on";
-const FULL: &str = "run with every thread at a full stack";
+const FULL: &str = "run with nothing left but full stacks, or overflows too";
 const REFUSED: &str = "run that goes on after a refusal";
 const WAITS: &str = "run with a thread that waits, and one that can step";
 const WAITS_FULL: &str = "run with a thread that waits, and none but full stacks";
@@ -59,6 +65,12 @@ const BEAT_FULL: &str = "run with a beat that gets 18";
 const NO_PACE: &str = "run with a beat that gets 27";
 const JOINED: &str = "run with a beat that joins";
 const SEVERAL: &str = "run with a beat of several promotions";
+
+const OVER: &str = "run with nothing left but an overflow";
+const OVER_ROOMY: &str = "run with nothing left but an overflow, at a depth of at most 8";
+const WAITS_OVER: &str = "run with a thread that waits, and none but an overflow";
+const BEAT_OVER: &str = "run with a beat that gets 29";
+const SCHEDULE_OVER: &str = "run with a schedule that 29 ends, after others";
 
 /// A run of an accepted table on a machine.
 struct Run<'a> {
@@ -236,6 +248,9 @@ impl Run<'_> {
             (Err(refusal), Some(&choice)) => self.check_answer(tally, choice, Err(refusal)),
             _ => tally.expect(false, || format!("{made} made, {answer:?} given")),
         }
+        if made > 0 && answer == Err(Refusal::plain(29)) {
+            tally.event(SCHEDULE_OVER);
+        }
     }
 
     /// A beat of any thread, some by a pace out of range.
@@ -375,6 +390,7 @@ impl Run<'_> {
             Ok((_, 2..)) => SEVERAL,
             Ok(_) => BEAT,
             Err(_) if refused == Some(18) => BEAT_FULL,
+            Err(_) if refused == Some(29) => BEAT_OVER,
             Err(_) => BEAT_REFUSED,
         });
     }
@@ -396,10 +412,12 @@ impl Run<'_> {
     ) -> Result<u8, Refusal> {
         check_join(tally, self.program, &mut self.pool, choice);
         let number = Some(self.sporks.next());
+        let worked = Worked::of(self.program, &self.pool, choice);
         let due = choose(self.program, &mut self.pool, choice, number);
         let before = words.to_vec();
         let answer = self.machine.choose(&self.table, words, choice.0, choice.1);
         check_same(tally, choice, answer, due);
+        check_choice(tally, worked.as_ref(), answer, &before, words);
         let put = Put {
             choice,
             answer,
@@ -411,13 +429,13 @@ impl Run<'_> {
         answer
     }
 
-    /// A choice of a run makes a rule of its kind, or gets one of 14 to 18, 20
-    /// and 21: nothing is ever stuck. Where it gets 17, some thread can step
-    /// or gets 18. None gets 18 at a depth of at most 8.
+    /// A choice of a run makes a rule of its kind, or gets one of 14 to 18, 20, 21
+    /// and 29: nothing is ever stuck. Where it gets 17, some thread can step or
+    /// gets 18 or 29. None gets 18 at a depth of at most 8.
     fn check_answer(&self, tally: &mut Tally, choice: Choice, answer: Result<u8, Refusal>) {
         let fits = match (choice.0, answer.map_err(|refusal| refusal.number)) {
             (STEP, Err(18)) => !self.roomy(),
-            (STEP, answer) => matches!(answer, Ok(1..=9) | Err(15..=17)),
+            (STEP, answer) => matches!(answer, Ok(1..=9) | Err(15..=17 | 29)),
             (PROMOTE, answer) => matches!(answer, Ok(10) | Err(15 | 20 | 21)),
             (_, answer) => answer == Err(14),
         };
@@ -428,16 +446,21 @@ impl Run<'_> {
         if answer == Err(Refusal::plain(17)) {
             let steps = (0..8).any(|thread| matches!(self.step(tally, thread), Ok(1..=9)));
             let full = !steps && self.out_of_frames(tally);
-            tally.expect(steps || full, || {
+            let over = !steps && !full && self.overflows(tally);
+            tally.expect(steps || full || over, || {
                 format!("{choice:?} waits for nothing: {:?}", self.words)
             });
-            tally.event(if steps { WAITS } else { WAITS_FULL });
+            tally.event(match (steps, full) {
+                (true, _) => WAITS,
+                (_, true) => WAITS_FULL,
+                _ => WAITS_OVER,
+            });
         }
     }
 
     /// Main has returned as many values as declared, or a thread can step, or
-    /// some thread is at a call with all frames in use; the last not at a
-    /// depth of at most 8. The thread that is named is the first that can.
+    /// some thread is at a call with all frames in use, not at a depth of at most
+    /// 8, or overflows. The thread that is named is the first that can.
     fn stands(&self, tally: &mut Tally) {
         self.agrees(tally);
         let returned = self.returned(tally);
@@ -454,15 +477,20 @@ impl Run<'_> {
                 });
             }
             Ok(None) => {
-                let stands = returned || self.out_of_frames(tally);
+                let full = self.out_of_frames(tally);
+                let over = self.overflows(tally);
+                let stands = returned || full || over;
                 tally.expect(stands, || format!("no progress: {:?}", self.words));
+                if !returned {
+                    tally.event(if full { FULL } else { OVER });
+                }
+                if !returned && over && self.roomy() {
+                    tally.event(OVER_ROOMY);
+                }
             }
             Err(refusal) => tally.expect(false, || format!("can step: {refusal:?}")),
         }
         if !returned {
-            if which == Ok(None) {
-                tally.event(FULL);
-            }
             for event in watch::reached(&self.pool) {
                 tally.event(event);
             }
@@ -506,6 +534,11 @@ impl Run<'_> {
     fn out_of_frames(&self, tally: &mut Tally) -> bool {
         let full = (0..8).any(|thread| self.step(tally, thread) == Err(Refusal::plain(18)));
         full && !self.roomy()
+    }
+
+    /// Whether a step of some thread gets 29.
+    fn overflows(&self, tally: &mut Tally) -> bool {
+        (0..8).any(|thread| self.step(tally, thread) == Err(Refusal::plain(29)))
     }
 
     /// A step on copies of the words and the pool.

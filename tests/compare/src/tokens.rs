@@ -14,7 +14,7 @@ use oracle::tally::Tally;
 use oracle::{Refusal, Rule, POOL_WORDS};
 
 /// What must occur, by name.
-pub const EVENTS: [&str; 8] = [MANY, TIGHT, HELD, LOST, RICH, FULL, REFUSED, BACK];
+pub const EVENTS: [&str; 9] = [MANY, TIGHT, HELD, LOST, RICH, FULL, REFUSED, BACK, OVER];
 
 const MANY: &str = "run from a fresh pool with 20 promotions";
 const TIGHT: &str = "run from a fresh pool with every token paid";
@@ -23,6 +23,7 @@ const LOST: &str = "run from a fresh pool with the work of joined children lost"
 const REFUSED: &str = "run from a fresh pool that a refused beat ends, after promotions";
 const RICH: &str = "run from a fresh pool with tokens dropped";
 const FULL: &str = "run from a fresh pool with eight threads and tokens held";
+const OVER: &str = "run from a fresh pool that 29 ends, after steps";
 const BACK: &str = "run from a fresh pool with tokens handed back";
 
 /// A run from a fresh pool, on a machine.
@@ -95,6 +96,9 @@ impl Run<'_> {
         self.holds(tally);
         if answer.is_err() && made[1] > 0 {
             tally.event(REFUSED);
+        }
+        if answer == Err(Refusal::plain(29)) && made[0] > 0 {
+            tally.event(OVER);
         }
     }
 

@@ -18,6 +18,7 @@ pub mod listing;
 pub mod longest;
 pub mod machine;
 pub mod openers;
+pub mod overflow;
 pub mod pool;
 pub mod refusal;
 pub mod rng;

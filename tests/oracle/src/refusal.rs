@@ -3,7 +3,7 @@
 /// Where a refusal points to.
 #[derive(Clone, Copy, Debug, PartialEq, Eq, Hash, PartialOrd, Ord)]
 pub enum Place {
-    /// No place (1, 2, 12 to 24, 27 and 28).
+    /// No place (1, 2, 12 to 24 and 27 to 29).
     Nowhere,
     /// An offset in the table (3).
     Offset(usize),
@@ -14,7 +14,7 @@ pub enum Place {
 /// The block number given for a fault that lies in no block.
 pub const NO_BLOCK: usize = 255;
 
-/// A refusal: its number (1 to 28) and its place.
+/// A refusal: its number (1 to 29) and its place.
 #[derive(Clone, Copy, Debug, PartialEq, Eq, Hash)]
 pub struct Refusal {
     pub number: u8,

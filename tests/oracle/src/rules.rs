@@ -65,6 +65,8 @@ const FULL_STACK: u8 = 18;
 const STUCK: u8 = 19;
 const NOTHING: u8 = 20;
 const FULL_POOL: u8 = 21;
+/// The number of a refusal: a sum or a negation that no 32 bits hold.
+pub const OVERFLOW: u8 = 29;
 
 /// The kinds of a choice.
 pub const STEP: u64 = 0;
@@ -147,22 +149,29 @@ pub fn gather(temporaries: &Temporaries, names: &[Temporary]) -> Option<Vec<i32>
     names.iter().map(|&t| lookup(temporaries, t)).collect()
 }
 
-fn atom(temporaries: &Temporaries, atom: Atom) -> Option<i32> {
+pub fn atom(temporaries: &Temporaries, atom: Atom) -> Option<i32> {
     match atom {
         Atom::Value(value) => Some(value),
         Atom::Temporary(t) => lookup(temporaries, t),
     }
 }
 
-/// An expression's value, keeping the low 32 bits.
-fn evaluate(temporaries: &Temporaries, expression: &Expression) -> Option<i32> {
-    let value = |m| atom(temporaries, m);
+/// What an expression comes to among all integers, if its operands are bound.
+pub fn exact(temporaries: &Temporaries, expression: &Expression) -> Option<i64> {
+    let integer = |m| atom(temporaries, m).map(i64::from);
     Some(match *expression {
-        Expression::Plain(m) => value(m)?,
-        Expression::Negated(m) => value(m)?.wrapping_neg(),
-        Expression::Sum(m, n) => value(m)?.wrapping_add(value(n)?),
-        Expression::Less(m, n) => i32::from(value(m)? < value(n)?),
+        Expression::Plain(m) => integer(m)?,
+        Expression::Negated(m) => -integer(m)?,
+        Expression::Sum(m, n) => integer(m)? + integer(n)?,
+        Expression::Less(m, n) => i64::from(integer(m)? < integer(n)?),
     })
+}
+
+/// An expression's value: the same integer in 32 bits. An unbound operand is
+/// stuck, and an integer that 32 bits do not hold overflows.
+fn evaluate(temporaries: &Temporaries, expression: &Expression) -> Result<i32, u8> {
+    let integer = exact(temporaries, expression).ok_or(STUCK)?;
+    i32::try_from(integer).map_err(|_| OVERFLOW)
 }
 
 /// A block of a function that takes a number of values.
@@ -189,7 +198,7 @@ fn bind(frame: &mut Frame, parameters: &[Temporary], values: &[i32]) {
 /// Steps a thread, by a choice that may have a number; a refusal changes nothing.
 pub fn step(program: &Program, thread: &mut Thread, number: Option<u64>) -> Result<Rule, u8> {
     match transfer(program, thread) {
-        None => statement(program, thread.current_mut()).ok_or(STUCK),
+        None => statement(program, thread.current_mut()),
         Some(Transfer::Goto { block, arguments }) => {
             goto(program, thread.current_mut(), *block, arguments).ok_or(STUCK)
         }
@@ -197,7 +206,7 @@ pub fn step(program: &Program, thread: &mut Thread, number: Option<u64>) -> Resu
             condition,
             then,
             otherwise,
-        }) => branch(program, thread.current_mut(), condition, *then, *otherwise).ok_or(STUCK),
+        }) => branch(program, thread.current_mut(), condition, *then, *otherwise),
         Some(Transfer::Call {
             function,
             arguments,
@@ -214,12 +223,12 @@ pub fn step(program: &Program, thread: &mut Thread, number: Option<u64>) -> Resu
     }
 }
 
-fn statement(program: &Program, frame: &mut Frame) -> Option<Rule> {
+fn statement(program: &Program, frame: &mut Frame) -> Result<Rule, u8> {
     let statement = &code(program, frame).statements[frame.done];
     let value = evaluate(&frame.temporaries, &statement.expression)?;
     bind(frame, &[statement.target], &[value]);
     frame.done += 1;
-    Some(Rule::Stmt)
+    Ok(Rule::Stmt)
 }
 
 fn goto(program: &Program, frame: &mut Frame, name: Name, arguments: &[Temporary]) -> Option<Rule> {
@@ -229,21 +238,22 @@ fn goto(program: &Program, frame: &mut Frame, name: Name, arguments: &[Temporary
     Some(Rule::Goto)
 }
 
-/// An if looks only at the block it goes to.
+/// An if looks only at the block it goes to, and at none where its condition
+/// overflows.
 fn branch(
     program: &Program,
     frame: &mut Frame,
     condition: &Expression,
     then: Name,
     otherwise: Name,
-) -> Option<Rule> {
+) -> Result<Rule, u8> {
     let (rule, name) = match evaluate(&frame.temporaries, condition)? {
         0 => (Rule::Else, otherwise),
         _ => (Rule::Then, then),
     };
-    let block = taking(function(program, frame), name, 0)?;
+    let block = taking(function(program, frame), name, 0).ok_or(STUCK)?;
     jump(frame, name, block, &[]);
-    Some(rule)
+    Ok(rule)
 }
 
 fn call(

@@ -5,7 +5,7 @@ use std::collections::BTreeMap;
 use std::process::ExitCode;
 
 /// How many refusals there are, counted from 1.
-const REFUSALS: usize = 28;
+const REFUSALS: usize = 29;
 
 /// The counts of a whole test, and where it stands.
 pub struct Tally {

@@ -1,15 +1,17 @@
 //! What is worth counting: the shapes of programs, joins, what pools reach, what
-//! beats are like, the first thread that can step, and what listings show.
+//! beats are like, the first thread that can step, what listings show, and
+//! expressions at the ends of 32 bits.
 
 use crate::beats::{Beat, Entry, Pace};
 use crate::depth;
 use crate::first::Run;
 use crate::graph::{cyclic, jumps, live, Graph};
+use crate::overflow::{beyond, next, End};
 use crate::pool::{Frame, Pool, Thread, MAX_CALLS, MAX_FRAMES, MAX_THREADS, TEMPORARIES};
-use crate::rules::{ended, step, transfer, Rule};
+use crate::rules::{atom, ended, exact, step, transfer, Rule};
 use crate::table::{
-    Function, Name, Program, Transfer, BRIEF_MAX, MAX_BLOCKS, MAX_FUNCTIONS, MAX_NESTING,
-    MAX_SPAWNS,
+    Atom, Expression, Function, Name, Program, Transfer, BRIEF_MAX, MAX_BLOCKS, MAX_FUNCTIONS,
+    MAX_NESTING, MAX_SPAWNS,
 };
 use crate::tidy::Numbering;
 
@@ -326,7 +328,7 @@ pub fn promotions_event(promotions: u64) -> String {
 }
 
 /// What the first thread that can step is like, by name.
-pub const FIRSTS: [&str; 12] = [
+pub const FIRSTS: [&str; 14] = [
     "first is thread 0, and no other can step",
     "first is thread 0, and another can step",
     "first is thread 1, and no other can step",
@@ -334,11 +336,13 @@ pub const FIRSTS: [&str; 12] = [
     "first is another, and a lower one is ended",
     "first is another, and a lower one is out of frames",
     "first is another, and a lower one is stuck",
+    "first is another, and a lower one overflows",
     "first is another, and all lower ones wait, two or more",
     "first is another, and a higher one can step",
     "first is none, and main has returned",
     "first is none, and a thread is out of frames",
     "first is none, and a thread is stuck",
+    "first is none, and a thread overflows",
 ];
 
 /// What the first thread of a pool that can step is like, by what a step of each
@@ -362,11 +366,13 @@ pub fn firsts(program: &Program, pool: &Pool) -> Vec<&'static str> {
         behind && gets(16),
         behind && gets(18),
         behind && gets(19),
+        behind && gets(29),
         behind && lower > 1 && answers[..lower].iter().all(waits),
         behind && can > 1,
         !some && answers[0] == Err(16),
         !some && gets(18),
         !some && gets(19),
+        !some && gets(29),
     ];
     let found = FIRSTS.into_iter().zip(holds);
     found
@@ -490,4 +496,96 @@ pub fn listed(pool: &Pool) -> Vec<&'static str> {
 fn height(thread: &Thread) -> usize {
     let below = thread.children.iter().map(|child| 1 + height(child));
     below.max().unwrap_or(0)
+}
+
+/// What expressions at the ends of 32 bits are like, by name.
+pub const LIMITS: [&str; 24] = [
+    "overflow of a sum at the top",
+    "overflow of a sum at the bottom",
+    "overflow of a negation",
+    "overflow of a sum by one at the top",
+    "overflow of a sum by one at the bottom",
+    "overflow of a sum by half of all at the top",
+    "overflow of a sum by half of all at the bottom",
+    "overflow of values alone",
+    "overflow of temporaries alone",
+    "overflow of a temporary and a value",
+    "overflow in a statement",
+    "overflow in an if",
+    "overflow of a negation in an if",
+    "overflow in an if whose blocks are both missing",
+    "overflow in an if one of whose blocks is missing",
+    "overflow in thread 0",
+    "overflow in a child",
+    "overflow in a called function",
+    "sum that is the greatest value",
+    "sum that is the least value",
+    "negation that is the greatest value",
+    "if by a sum at the limit",
+    "sum of an unbound operand and the greatest or least value",
+    "if by a sum with an unbound operand",
+];
+
+/// What the expression is like that the next step of a thread works out, where it
+/// does.
+pub fn limits(program: &Program, number: usize, thread: &Thread) -> Vec<&'static str> {
+    let frame = thread.current();
+    let Some(next) = next(program, thread) else {
+        return Vec::new();
+    };
+    let (operands, sum) = match *next.expression {
+        Expression::Negated(m) => (vec![m], false),
+        Expression::Sum(m, n) => (vec![m, n], true),
+        Expression::Plain(_) | Expression::Less(..) => return Vec::new(),
+    };
+    let end = beyond(&frame.temporaries, next.expression);
+    let integer = exact(&frame.temporaries, next.expression);
+    let over = end.is_some();
+    let is = |number: i64| integer == Some(number);
+    let (least, most) = (i64::from(i32::MIN), i64::from(i32::MAX));
+    let half = 1 << 30;
+    let values: Vec<Option<i32>> = operands
+        .iter()
+        .map(|&m| atom(&frame.temporaries, m))
+        .collect();
+    let unbound = values.contains(&None);
+    let great = |value: &Option<i32>| matches!(value, Some(i32::MIN | i32::MAX));
+    let temporary = |m: &&Atom| matches!(m, Atom::Temporary(_));
+    let temporaries = operands.iter().filter(temporary).count();
+    let branch = next.blocks.is_some();
+    let missing = next.blocks.map_or(0, |blocks| {
+        let own = &program.functions[frame.function];
+        let missing = |name: &&Name| own.block(**name).is_none();
+        blocks.iter().filter(missing).count()
+    });
+    let holds = [
+        sum && end == Some(End::Top),
+        sum && end == Some(End::Bottom),
+        over && !sum,
+        sum && is(most + 1),
+        sum && is(least - 1),
+        sum && integer.is_some_and(|integer| integer > most + half),
+        sum && integer.is_some_and(|integer| integer < least - half),
+        over && temporaries == 0,
+        over && temporaries == operands.len(),
+        over && sum && temporaries == 1,
+        over && !branch,
+        over && branch,
+        over && branch && !sum,
+        over && missing == 2,
+        over && missing == 1,
+        over && number == 0,
+        over && number > 0,
+        over && thread.frames.len() > 1,
+        sum && is(most),
+        sum && is(least),
+        !sum && is(most),
+        branch && sum && (is(most) || is(least)),
+        sum && unbound && values.iter().any(great),
+        sum && unbound && branch,
+    ];
+    let found = LIMITS.into_iter().zip(holds);
+    found
+        .filter_map(|(event, held)| held.then_some(event))
+        .collect()
 }

@@ -3,7 +3,7 @@ use native.Mathlib.Omega.{arith}
 use borrow.Author.Needs.{needs, sfits-of}
 use lib.IntN.{pos}
 use lib.ListN.{getD}
-use Rattle.words.proofs.Wrapping.{positive}
+use Rattle.words.proofs.Signs.{positive}
 use Rattle.valid.proofs.Steps.{below-zero, not-below}
 use Rattle.valid.proofs.number.Statement.{statement}
 use Rattle.valid.proofs.number.Tie as tie

@@ -1,6 +1,6 @@
 -- `words::bits`: the 32 bits of a signed word, as an unsigned number.
 use native.Mathlib.Omega.{arith}
-use Rattle.words.proofs.Wrapping.{negative, positive}
+use Rattle.words.proofs.Signs.{negative, positive}
 use Rattle.words.proofs.bits.Statement.{statement}
 use Rattle.words.proofs.bits.Tie as tie
 

@@ -1,6 +1,6 @@
 -- `words::signed`: the signed word of 32 bits.
 use mir.Facts.{sfits-toZ, toZ-ofZ}
-use Rattle.words.proofs.Wrapping.{flipped}
+use Rattle.words.proofs.Signs.{flipped}
 use borrow.Author.Needs.{needs}
 use Rattle.words.proofs.signed.Statement.{statement}
 use Rattle.words.proofs.signed.Tie as tie

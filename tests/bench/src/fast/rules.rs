@@ -16,6 +16,7 @@ const CALLS: usize = 6;
 const VALUES: usize = 10;
 
 const STUCK: u8 = 19;
+const OVERFLOW: u8 = 29;
 /// The rule of a join.
 const PROM: u8 = 9;
 
@@ -206,21 +207,21 @@ impl<'a> Code<'a> {
         }
     }
 
-    /// An expression's value, and where it ends.
+    /// An expression's value, and where it ends; or the number of its refusal.
     #[inline(always)]
-    fn eval(self, frame: &Frame, at: usize) -> Option<(i32, usize)> {
-        let (m, end) = self.atom(frame, at + 1)?;
+    fn eval(self, frame: &Frame, at: usize) -> Result<(i32, usize), u8> {
+        let (m, end) = self.atom(frame, at + 1).ok_or(STUCK)?;
         match self.t[at] {
-            0 => Some((m, end)),
-            1 => Some((m.wrapping_neg(), end)),
+            0 => Ok((m, end)),
+            1 => Ok((m.checked_neg().ok_or(OVERFLOW)?, end)),
             kind => {
-                let (n, end) = self.atom(frame, end)?;
+                let (n, end) = self.atom(frame, end).ok_or(STUCK)?;
                 let value = if kind == 2 {
-                    m.wrapping_add(n)
+                    m.checked_add(n).ok_or(OVERFLOW)?
                 } else {
                     i32::from(m < n)
                 };
-                Some((value, end))
+                Ok((value, end))
             }
         }
     }
@@ -277,7 +278,7 @@ impl<'a> Code<'a> {
         let f = own[FUNCTION] as usize;
         let (at, left) = self.next(own);
         if left {
-            let (value, _) = self.eval(own, at + 1).ok_or(STUCK)?;
+            let (value, _) = self.eval(own, at + 1)?;
             return Ok(Act::Statement(t[at], value));
         }
         let first = at + 1;
@@ -288,7 +289,7 @@ impl<'a> Code<'a> {
                 Ok(Act::Goto(t[first], parameters, values))
             }
             1 => {
-                let (value, end) = self.eval(own, first).ok_or(STUCK)?;
+                let (value, end) = self.eval(own, first)?;
                 let (rule, block) = if value != 0 {
                     (3, t[end])
                 } else {

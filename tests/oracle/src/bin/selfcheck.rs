@@ -20,10 +20,11 @@ use oracle::graph::live;
 use oracle::listing::{listing, Reader, LISTING, LISTING_BYTES};
 use oracle::machine::{complete_differs, differences, unwritten, Machine, Oracle};
 use oracle::openers::Openers;
+use oracle::overflow::{self, overflows};
 use oracle::pool::{Frame, Pool, Purse, Temporaries, Thread, MAX_FRAMES, MAX_THREADS, MAX_TOKENS};
 use oracle::rng::Rng;
-use oracle::rules::{self, ended, gather, Rule, PROMOTE, STEP};
-use oracle::table::{Function, Program, MAX_FUNCTIONS, TABLE_MAX};
+use oracle::rules::{self, ended, gather, Rule, OVERFLOW, PROMOTE, STEP};
+use oracle::table::{Atom, Expression, Function, Program, MAX_FUNCTIONS, TABLE_MAX};
 use oracle::tally::Tally;
 use oracle::tidy::{is_tidy, tidied, Numbering, ROOM};
 use oracle::watch::{self, join, join_event};
@@ -49,9 +50,10 @@ fn main() -> ExitCode {
 }
 
 /// One round: an accepted table, its tidy table and its runs, planted faults,
-/// spoiled bytes, scenarios, a table rich in calls, one rich in sporks and
-/// loops, tables of version 2, and a small program of which all scopes and
-/// nestings are tried; all from the seed and the round's number.
+/// spoiled bytes, scenarios, pools at the limits of sums and negations, a table
+/// rich in calls, one rich in sporks and loops, tables of version 2, and a small
+/// program of which all scopes and nestings are tried; all from the seed and the
+/// round's number.
 fn check_round(tally: &mut Tally, rng: &mut Rng) {
     let program = programs::accepted(rng);
     check_accepted(tally, &program, None);
@@ -74,6 +76,9 @@ fn check_round(tally: &mut Tally, rng: &mut Rng) {
             tally.expect(found.is_empty(), || format!("{found:?}"));
         }
     }
+    check_limits(tally, rng, &program);
+    let loose = programs::loose(rng);
+    check_limits(tally, rng, &loose);
     check_calls(tally, rng);
     let program = looping(rng);
     check_accepted(tally, &program, None);
@@ -103,6 +108,28 @@ fn check_calls(tally: &mut Tally, rng: &mut Rng) {
     check_bytes(tally, rng, &program);
 }
 
+/// Pools of a program of which a next expression is at the limit: a step and a
+/// beat of every thread, and the first thread that can step.
+fn check_limits(tally: &mut Tally, rng: &mut Rng, program: &Program) {
+    for _ in 0..4 {
+        let Some(mut pool) = pools::limited(rng, program) else {
+            return;
+        };
+        pools::fill_purses(rng, &mut pool);
+        for thread in 0..pool.size() as u64 {
+            let mut after = pool.clone();
+            let choice = (STEP, thread);
+            let answer = rules::choose(program, &mut after, STEP, thread);
+            tally.answer(answer.map(Rule::number));
+            check_answer(tally, program, &pool, &after, choice, &answer);
+            let (mut after, pace) = (pool.clone(), quick_pace(rng));
+            let answer = beats::beat(program, &mut after, pace, thread);
+            check_beat(tally, program, &pool, &after, pace, thread, &answer);
+        }
+        check_first(tally, program, &pool);
+    }
+}
+
 /// What must occur besides every rule and refusal.
 fn events() -> Vec<String> {
     let mut events: Vec<String> = (0..=4).map(join_event).collect();
@@ -121,6 +148,8 @@ fn events() -> Vec<String> {
     events.extend(watch::FIRSTS.map(String::from));
     events.extend(watch::BY_FIRST.map(String::from));
     events.extend(watch::LISTED.map(String::from));
+    events.extend(watch::LIMITS.map(String::from));
+    events.extend(STANDINGS.map(String::from));
     events.extend(
         [
             "run that returned",
@@ -142,6 +171,11 @@ fn events() -> Vec<String> {
             STOPPED,
             SHOWN,
             HIDDEN,
+            BEAT_OVERFLOWS,
+            RUN_OVERFLOWS,
+            SCHEDULE_OVERFLOWS,
+            WAITS,
+            EXACT,
         ]
         .map(String::from),
     );
@@ -156,6 +190,20 @@ const STOPPED: &str = "run that a refused beat ends, after others";
 
 const SHOWN: &str = "other values, which the customer sees";
 const HIDDEN: &str = "other values in older frames alone, which nobody sees";
+
+/// What no progress but by the end, a full stack or an overflow is like.
+const STANDINGS: [&str; 5] = [
+    "standing by main's return",
+    "standing by a full stack alone",
+    "standing by an overflow alone",
+    "standing by an overflow alone, at a depth of at most 8",
+    "overflow beside a thread that can step",
+];
+const BEAT_OVERFLOWS: &str = "beat that gets 29 where promotions could be made";
+const RUN_OVERFLOWS: &str = "run that 29 ends, after others";
+const SCHEDULE_OVERFLOWS: &str = "schedule that 29 ends, after others";
+const WAITS: &str = "17 where nothing but an overflow keeps the thread that is waited for";
+const EXACT: &str = "value bound that is the integer itself";
 
 const BY_PATHS: &str = "depth by all paths";
 const BY_ROUNDS: &str = "depth by rounds alone";
@@ -559,6 +607,8 @@ fn check_run(tally: &mut Tally, rng: &mut Rng, program: &Program) {
         }
         if ended(program, &pool.root).is_some() {
             left = left.min(3);
+        } else if rules::steppable(program, &pool).is_empty() {
+            left = left.min(80);
         }
     }
     if ended(program, &pool.root).is_some() {
@@ -621,6 +671,10 @@ fn check_beat(
             tally.expect(Err(*number) == due && before == after, || {
                 format!("{pace:?} {thread} gets {answer:?}, {due:?} due")
             });
+            let mut promotes = || rules::choose(program, &mut plain, PROMOTE, thread).is_ok();
+            if *number == OVERFLOW && purses(before)[thread as usize].tokens > 0 && promotes() {
+                tally.event(BEAT_OVERFLOWS);
+            }
             return;
         }
     };
@@ -750,6 +804,9 @@ fn check_tokens(tally: &mut Tally, rng: &mut Rng, program: &Program) {
         if made > 0 {
             tally.event(STOPPED);
         }
+        if made > 0 && number == OVERFLOW {
+            tally.event(RUN_OVERFLOWS);
+        }
     }
     if account.promotions >= 20 {
         tally.event(RAN);
@@ -787,8 +844,8 @@ fn check_first(tally: &mut Tally, program: &Program, pool: &Pool) -> Option<usiz
 }
 
 /// Steps by the first of an accepted program, from a pool that a run from the
-/// start reached, with promotions: where they end main has returned or some
-/// thread has no frame left.
+/// start reached, with promotions: where they end main has returned, or some
+/// thread has no frame left or overflows.
 fn check_along(tally: &mut Tally, rng: &mut Rng, program: &Program) {
     let length = rng.one_of([0, 10, 60]);
     let pool = pools::reached(rng, program, length);
@@ -992,24 +1049,100 @@ fn check_opened(
     }
 }
 
-/// Some thread can step, or is at a call with all frames in use, or main has
-/// returned as many values as declared; at a depth of at most 8 it is the first
-/// or the last.
+/// Some thread can step, or is at a call with all frames in use, or overflows, or
+/// main has returned as many values as declared; at a depth of at most 8 no thread
+/// is at such a call.
 fn check_progress(tally: &mut Tally, program: &Program, depth: Option<u8>, pool: &Pool) {
     let values = ended(program, &pool.root);
     let declared = usize::from(program.functions[0].returns);
     let returned = values.as_ref().is_some_and(|v| v.len() == declared);
-    let steps = !rules::steppable(program, pool).is_empty();
-    let full = || {
-        let step = |t| rules::choose(program, &mut pool.clone(), STEP, t as u64);
-        !roomy(depth) && (0..pool.size()).any(|t| step(t) == Err(18))
-    };
-    tally.expect(returned || steps || full(), || {
-        format!("no progress: {pool:?}")
-    });
+    let step = |t| rules::choose(program, &mut pool.clone(), STEP, t as u64);
+    let answers: Vec<Result<Rule, u8>> = (0..pool.size()).map(step).collect();
+    let steps = answers.iter().any(Result::is_ok);
+    let full = answers.contains(&Err(18));
+    let over = answers.contains(&Err(OVERFLOW));
+    let stands = returned || steps || over || full && !roomy(depth);
+    tally.expect(stands, || format!("no progress: {pool:?}"));
     tally.expect(values.is_none() || returned, || {
         format!("main gives {values:?}, not {declared} values")
     });
+    let waits = answers.contains(&Err(17));
+    tally.expect(!waits || steps || full || over, || {
+        format!("a thread waits for nothing: {pool:?}")
+    });
+    let alone = over && !steps && !full;
+    if waits && alone {
+        tally.event(WAITS);
+    }
+    let holds = [
+        returned,
+        full && !steps && !over,
+        alone,
+        alone && roomy(depth),
+        over && steps,
+    ];
+    for (event, held) in STANDINGS.into_iter().zip(holds) {
+        if held {
+            tally.event(event);
+        }
+    }
+}
+
+/// A step gets 29 exactly if the thread's next expression overflows, as its
+/// operands tell; a promotion never does. Where a statement is made, the value
+/// bound is the integer that the expression comes to.
+fn check_exact(
+    tally: &mut Tally,
+    program: &Program,
+    (before, after): (&Pool, &Pool),
+    (kind, thread): Choice,
+    answer: &Result<Rule, u8>,
+) {
+    let number = usize::try_from(thread).unwrap_or(MAX_THREADS);
+    let threads = before.threads();
+    let Some(own) = threads.get(number).filter(|_| kind == STEP) else {
+        tally.expect(*answer != Err(OVERFLOW), || {
+            format!("({kind}, {thread}) gets {answer:?}")
+        });
+        return;
+    };
+    let over = overflows(program, own);
+    tally.expect(over == (*answer == Err(OVERFLOW)), || {
+        format!("a step of {thread} gets {answer:?}: {own:?}")
+    });
+    for event in watch::limits(program, number, own) {
+        tally.event(event);
+    }
+    let frame = own.current();
+    if *answer == Ok(Rule::Stmt) {
+        let code = &program.functions[frame.function].blocks[frame.block];
+        let statement = &code.statements[frame.done];
+        let left = &after.threads()[number].current().temporaries;
+        let bound = left[usize::from(statement.target)].map(i128::from);
+        let due = integer(&frame.temporaries, statement.expression);
+        tally.expect(bound.is_some() && bound == due, || {
+            format!("{bound:?} is bound, {due:?} due: {statement:?}")
+        });
+        tally.event(EXACT);
+    }
+    let stands = overflow::next(program, own).is_some();
+    tally.expect(stands || *answer != Err(OVERFLOW), || {
+        format!("29, and neither at a statement nor at an if: {own:?}")
+    });
+}
+
+/// An expression's integer, without an end.
+fn integer(temporaries: &Temporaries, expression: Expression) -> Option<i128> {
+    let value = |m: Atom| match m {
+        Atom::Value(value) => Some(i128::from(value)),
+        Atom::Temporary(t) => temporaries[usize::from(t)].map(i128::from),
+    };
+    match expression {
+        Expression::Plain(m) => value(m),
+        Expression::Negated(m) => Some(0 - value(m)?),
+        Expression::Sum(m, n) => Some(value(m)? + value(n)?),
+        Expression::Less(m, n) => Some(i128::from(value(m)? - value(n)? < 0)),
+    }
 }
 
 /// A join brings as many values as the block behind it takes.
@@ -1041,11 +1174,12 @@ fn check_answer(
         (STEP, Ok(rule)) => *rule != Rule::Promote,
         (PROMOTE, Ok(rule)) => *rule == Rule::Promote,
         (STEP | PROMOTE, Err(number)) if absent => *number == 15,
-        (STEP, Err(number)) => (16..=19).contains(number),
+        (STEP, Err(number)) => matches!(number, 16..=19 | &OVERFLOW),
         (PROMOTE, Err(number)) => (19..=21).contains(number),
         (_, answer) => *answer == Err(14),
     };
     tally.expect(fits, || format!("({kind}, {thread}) gets {answer:?}"));
+    check_exact(tally, program, (before, after), (kind, thread), answer);
     let Ok(rule) = answer else {
         tally.expect(before == after, || "a refusal changed the pool".to_string());
         return;
@@ -1400,5 +1534,8 @@ fn check_schedule(tally: &mut Tally, input: &Scenario) {
     });
     if given.0 >= 50 {
         tally.event("schedule of 50 made");
+    }
+    if given.0 > 0 && given.1 == Some(Refusal::plain(OVERFLOW)) {
+        tally.event(SCHEDULE_OVERFLOWS);
     }
 }

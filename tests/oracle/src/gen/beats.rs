@@ -1,7 +1,7 @@
 //! Paces, and lists of threads for beats.
 
 use crate::beats::{beat, Pace, MAX_C, MAX_N};
-use crate::gen::schedules::odd_number;
+use crate::gen::schedules::{odd_number, overflowing};
 use crate::pool::Pool;
 use crate::rng::Rng;
 use crate::rules::steppable;
@@ -106,7 +106,8 @@ pub fn guided_thread(rng: &mut Rng, program: &Program, pool: &Pool, blind: usize
 }
 
 /// The threads of a guided run from a pool, most of whose beats are made; the
-/// refused ones are left out, but for the last if `refused`.
+/// refused ones are left out, but for the last if `refused`, often one that
+/// overflows.
 pub fn guided_run(
     rng: &mut Rng,
     program: &Program,
@@ -126,7 +127,8 @@ pub fn guided_run(
         }
     }
     if refused {
-        threads.push(blind_thread(rng));
+        let over = overflowing(rng, program, &pool).filter(|_| rng.chance(60));
+        threads.push(over.unwrap_or_else(|| blind_thread(rng)));
     }
     threads
 }

@@ -1,5 +1,6 @@
 //! Pools: reached by runs, valid in any way, spoiled, and arbitrary words.
 
+use crate::gen::programs::limit_operands;
 use crate::gen::schedules::{guided_choice, Policy};
 use crate::pool::{
     frame_start, thread_start, Frame, OpenCall, Pool, Purse, Thread, FRAME_WORDS, MAX_CALLS,
@@ -7,7 +8,7 @@ use crate::pool::{
 };
 use crate::rng::Rng;
 use crate::rules::choose;
-use crate::table::{Block, Program, Transfer};
+use crate::table::{Atom, Block, Expression, Program, Transfer};
 
 /// A pool reached from the start by a guided run.
 pub fn reached(rng: &mut Rng, program: &Program, length: usize) -> Pool {
@@ -136,6 +137,127 @@ pub fn joining(rng: &mut Rng, program: &Program) -> Option<Pool> {
         root = parent;
     }
     Some(Pool { root })
+}
+
+/// A valid pool of which a thread's next step works out a sum or a negation of
+/// temporaries: an end of 32 bits, one beyond, or with an operand unbound; if the
+/// program has one.
+pub fn limited(rng: &mut Rng, program: &Program) -> Option<Pool> {
+    let (place, done, expression) = limited_place(rng, program)?;
+    let mut newest = bound_at(rng, program, place);
+    newest.done = done;
+    match expression {
+        Expression::Negated(m) => {
+            let value = rng.one_of([i32::MIN, i32::MIN, i32::MIN + 1, i32::MAX]);
+            rebind(&mut newest, m, Some(value));
+        }
+        Expression::Sum(m, n) => limit_sum(rng, &mut newest, m, n),
+        Expression::Plain(_) | Expression::Less(..) => {}
+    }
+    let mut root = Thread::entering(0, &[]);
+    root.frames = vec![newest];
+    let older = rng.one_of([0, 0, 1, MAX_FRAMES - 1]);
+    for _ in 0..older {
+        let mut frame = loose_frame(rng, program, 0, 0);
+        frame.done = 0;
+        root.frames.insert(0, frame);
+    }
+    if rng.chance(30) {
+        if let Some(parent) = parent_of(rng, program, root.clone()) {
+            root = parent;
+        }
+    }
+    Some(Pool { root })
+}
+
+/// Binds the operands of a sum, some of them temporaries, so that it is an end of
+/// 32 bits or one beyond; or one to a great value, and the other is unbound.
+fn limit_sum(rng: &mut Rng, frame: &mut Frame, m: Atom, n: Atom) {
+    let beyond = rng.chance(60);
+    let [one, other] = limit_operands(rng, beyond);
+    let (one, other) = match (m, n) {
+        (Atom::Value(value), _) => (one, rest(value, beyond)),
+        (_, Atom::Value(value)) => (rest(value, beyond), other),
+        _ => (one, other),
+    };
+    rebind(frame, m, Some(one));
+    rebind(frame, n, Some(other));
+    if rng.chance(20) {
+        let (unbound, bound) = rng.one_of([(m, n), (n, m)]);
+        let great = rng.one_of([i32::MIN, i32::MAX]);
+        rebind(frame, bound, Some(great));
+        rebind(frame, unbound, None);
+    }
+}
+
+/// A thread with this one for its child, if some function has spawn calls.
+fn parent_of(rng: &mut Rng, program: &Program, child: Thread) -> Option<Thread> {
+    let mut spawning = places(program, |_| true);
+    spawning.retain(|&(f, _)| !program.functions[f].spawns.is_empty());
+    let place = rng.pick(&spawning)?;
+    let mut frame = bound_at(rng, program, place);
+    frame.calls = vec![OpenCall::plain(0)];
+    frame.promoted = 1;
+    let mut parent = Thread::entering(0, &[]);
+    parent.frames = vec![frame];
+    parent.children = vec![child];
+    Some(parent)
+}
+
+/// What a value leaves up to the end on its side, or one more.
+fn rest(value: i32, beyond: bool) -> i32 {
+    match value.signum() {
+        1 => i32::MAX - value + i32::from(beyond),
+        -1 => i32::MIN - value - i32::from(beyond),
+        _ => 0,
+    }
+}
+
+/// Binds a temporary to a value, or unbinds it; a value stays.
+fn rebind(frame: &mut Frame, atom: Atom, value: Option<i32>) {
+    if let Atom::Temporary(t) = atom {
+        frame.temporaries[usize::from(t)] = value;
+    }
+}
+
+/// Where a sum or a negation of some temporary is worked out: a block, the
+/// statements done before, and the expression. Ifs as often as statements, and of
+/// them those with a missing block often.
+fn limited_place(rng: &mut Rng, program: &Program) -> Option<((usize, usize), usize, Expression)> {
+    let named = |expression: &Expression| {
+        let temporary = |m: &Atom| matches!(m, Atom::Temporary(_));
+        match expression {
+            Expression::Negated(m) => temporary(m),
+            Expression::Sum(m, n) => temporary(m) || temporary(n),
+            Expression::Plain(_) | Expression::Less(..) => false,
+        }
+    };
+    let (mut statements, mut branches, mut broken) = (Vec::new(), Vec::new(), Vec::new());
+    for place in places(program, |_| true) {
+        let own = &program.functions[place.0];
+        let block = &own.blocks[place.1];
+        for (done, statement) in block.statements.iter().enumerate() {
+            if named(&statement.expression) {
+                statements.push((place, done, statement.expression));
+            }
+        }
+        if let Transfer::If {
+            condition,
+            then,
+            otherwise,
+        } = &block.transfer
+        {
+            if named(condition) {
+                branches.push((place, block.statements.len(), *condition));
+                if own.block(*then).is_none() || own.block(*otherwise).is_none() {
+                    broken.push((place, block.statements.len(), *condition));
+                }
+            }
+        }
+    }
+    let missing = rng.pick(&broken).filter(|_| rng.chance(50));
+    let branch = missing.or_else(|| rng.pick(&branches).filter(|_| rng.chance(50)));
+    branch.or_else(|| rng.pick(&statements))
 }
 
 /// The blocks of a program that are of a kind, each with its function.

@@ -500,16 +500,53 @@ pub fn arguments(rng: &mut Rng, count: usize, bound: &Temporaries) -> Option<Vec
     (0..count).map(|_| rng.pick(&bound)).collect()
 }
 
-/// An expression over what is bound.
+/// An expression over what is bound; a few are at an end of 32 bits or one
+/// beyond.
 pub fn expression(rng: &mut Rng, bound: &Temporaries) -> Expression {
+    if rng.chance(4) {
+        return at_limit(rng);
+    }
     let m = atom(rng, bound);
     let n = atom(rng, bound);
     match rng.below(4) {
         0 => Expression::Plain(m),
         1 => Expression::Negated(m),
-        2 => Expression::Sum(m, n),
+        2 => Expression::Sum(smaller(rng, m), smaller(rng, n)),
         _ => Expression::Less(m, n),
     }
+}
+
+/// A value made small, most of the time, so that most sums have room.
+fn smaller(rng: &mut Rng, atom: Atom) -> Atom {
+    match atom {
+        Atom::Value(value) if rng.chance(80) => Atom::Value(value % 100),
+        other => other,
+    }
+}
+
+/// A sum or a negation of values which is an end of 32 bits, or one beyond.
+pub fn at_limit(rng: &mut Rng) -> Expression {
+    if rng.chance(20) {
+        let fits = rng.one_of([i32::MIN + 1, i32::MIN + 1, i32::MAX]);
+        let of = if rng.chance(10) { i32::MIN } else { fits };
+        return Expression::Negated(Atom::Value(of));
+    }
+    let beyond = rng.chance(10);
+    let [m, n] = limit_operands(rng, beyond);
+    Expression::Sum(Atom::Value(m), Atom::Value(n))
+}
+
+/// Two values whose sum is the greatest or the least value, or one beyond it.
+pub fn limit_operands(rng: &mut Rng, beyond: bool) -> [i32; 2] {
+    let any = rng.bits() as i32 & i32::MAX;
+    let more = i32::from(beyond);
+    let part = rng.one_of([0, 1, 2, any, any]).max(more);
+    let mut operands = [part, i32::MAX - part + more];
+    if rng.chance(50) {
+        operands = [-part, i32::MIN + part - more];
+    }
+    rng.shuffle(&mut operands);
+    operands
 }
 
 fn atom(rng: &mut Rng, bound: &Temporaries) -> Atom {
@@ -735,16 +772,20 @@ fn loose_block(rng: &mut Rng, functions: usize, blocks: usize, spawns: usize) ->
 
 fn loose_transfer(rng: &mut Rng, functions: usize, blocks: usize, spawns: usize) -> Transfer {
     let all: Temporaries = (0..=MAX_TEMPORARY).collect();
-    match rng.below(8) {
+    match rng.below(9) {
         0 => Transfer::Goto {
             block: loose_name(rng, blocks),
             arguments: loose_arguments(rng, 8),
         },
-        1 => Transfer::If {
-            condition: expression(rng, &all),
-            then: loose_name(rng, blocks),
-            otherwise: loose_name(rng, blocks),
-        },
+        1 | 8 => {
+            // Blocks that are there, most of them, or two that are not.
+            let missing = rng.chance(15).then_some(blocks as Name);
+            Transfer::If {
+                condition: expression(rng, &all),
+                then: missing.unwrap_or_else(|| loose_name(rng, blocks)),
+                otherwise: missing.unwrap_or_else(|| loose_name(rng, blocks)),
+            }
+        }
         2 => Transfer::Call {
             function: loose_name(rng, functions),
             arguments: loose_arguments(rng, 8),

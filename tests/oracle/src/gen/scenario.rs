@@ -42,9 +42,9 @@ pub fn notes() -> Vec<&'static str> {
     .concat()
 }
 
-const SOURCES: [&str; 15] = [
-    CROWDED, JOINING, START, REACHED, ANY_POOL, PURSES, BROKEN, CHANGED, FILLED, ARBITRARY,
-    RESIZED, GUIDED, BLIND, RUN, EMPTY,
+const SOURCES: [&str; 16] = [
+    CROWDED, JOINING, LIMITED, START, REACHED, ANY_POOL, PURSES, BROKEN, CHANGED, FILLED,
+    ARBITRARY, RESIZED, GUIDED, BLIND, RUN, EMPTY,
 ];
 
 const START: &str = "pool at the start";
@@ -52,6 +52,7 @@ const REACHED: &str = "pool reached by a run";
 const ANY_POOL: &str = "pool of any kind";
 const CROWDED: &str = "pool with many calls to promote";
 const JOINING: &str = "pool with a child to join";
+const LIMITED: &str = "pool with a sum or a negation at the limit";
 const PURSES: &str = "pool with any purses";
 const BROKEN: &str = "pool with a condition broken";
 const CHANGED: &str = "pool with one word changed";
@@ -155,7 +156,7 @@ fn pool_and_choices(
     notes: &mut Vec<&'static str>,
 ) -> (Pool, Vec<Choice>) {
     let length = rng.below(60);
-    let (note, mut pool) = match rng.below(12) {
+    let (note, mut pool) = match rng.below(14) {
         0..=2 => (START, Pool::start()),
         3..=5 => (REACHED, pools::reached(rng, program, length)),
         6 | 7 => match pools::crowded(rng, program) {
@@ -164,6 +165,10 @@ fn pool_and_choices(
         },
         8 => match pools::joining(rng, program) {
             Some(pool) => (JOINING, pool),
+            None => (ANY_POOL, pools::loose(rng, program)),
+        },
+        9 | 10 => match pools::limited(rng, program) {
+            Some(pool) => (LIMITED, pool),
             None => (ANY_POOL, pools::loose(rng, program)),
         },
         _ => (ANY_POOL, pools::loose(rng, program)),

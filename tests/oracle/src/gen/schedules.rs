@@ -1,5 +1,6 @@
 //! Choices and schedules, blind or guided by the pool they are put to.
 
+use crate::overflow::overflows;
 use crate::pool::Pool;
 use crate::rng::Rng;
 use crate::rules::{steppable, PROMOTE, STEP};
@@ -103,6 +104,16 @@ fn with_unpromoted(pool: &Pool) -> Vec<usize> {
         .collect()
 }
 
+/// A thread whose next expression overflows, if there is one.
+pub fn overflowing(rng: &mut Rng, program: &Program, pool: &Pool) -> Option<u64> {
+    let threads = pool.threads().into_iter().enumerate();
+    let found: Vec<u64> = threads
+        .filter(|(_, thread)| overflows(program, thread))
+        .map(|(number, _)| number as u64)
+        .collect();
+    rng.pick(&found)
+}
+
 fn preferred(rng: &mut Rng, threads: &[usize], order: Order) -> Option<usize> {
     match order {
         Order::First if rng.chance(80) => threads.first().copied(),
@@ -112,7 +123,7 @@ fn preferred(rng: &mut Rng, threads: &[usize], order: Order) -> Option<usize> {
 }
 
 /// The choices of a guided run from a pool, most of them made; the refused
-/// ones are left out, but for the last if `refused`.
+/// ones are left out, but for the last if `refused`, often a step that overflows.
 pub fn guided_schedule(
     rng: &mut Rng,
     program: &Program,
@@ -130,7 +141,8 @@ pub fn guided_schedule(
         }
     }
     if refused {
-        choices.push(blind_choice(rng));
+        let over = overflowing(rng, program, &pool).filter(|_| rng.chance(60));
+        choices.push(over.map_or_else(|| blind_choice(rng), |thread| (STEP, thread)));
     }
     choices
 }

@@ -1,17 +1,17 @@
--- The 32 bits of a signed word, and sums of words: their low 32 bits are the sum of their bits, modulo 2 ^ 32.
-use Prim.Native.Nat.{ℕ, zero, suc, _+_, _-_, _%_, _^_, _≤_, _<_}
+-- The 32 bits of a signed word.
+use Prim.Native.Nat.{ℕ, zero, suc, _-_, _^_, _≤_, _<_}
 use native.Mathlib.Omega.{arith}
 use native.Mathlib.Nat.{zero-add}
 use mathlib.Core.Path.{_≡_, refl, sym, ap, _∙_}
 use mathlib.Core.Bool.{Bool, true, false}
-use borrow.Author.Tests.{ltb-true, ltb-false, lt-ltb, le-ltb, ne-eqb}
-use lib.Dec.{eqb, ltb}
-use lib.IntN.{ℤ, pos, negsuc, subℕ, _+ℤ_, _-ℤ_, negℤ, +ℤ-idl, -ℤ-+ℤ-cancel}
+use borrow.Author.Tests.{ltb-true, lt-ltb, le-ltb, ne-eqb}
+use lib.Dec.{eqb}
+use lib.IntN.{ℤ, pos, negsuc, subℕ, _-ℤ_}
 use lib.Signed.{ltZ}
 use mir.Syntax.{w32}
 use mir.Val.{toZ, ofZ, SFits}
 use mir.Facts.{toZ-ofZ, toZ-pos}
-use Rattle.model.specs.Values.{low, wrap, plus, minus, same}
+use Rattle.model.specs.Values.{same}
 
 -- a difference of two numbers, by their order
 pub less-sub : (a b : ℕ) → a < b → subℕ a b ≡ negsuc (b - suc a)
@@ -72,58 +72,6 @@ flipped n f h =
     ∙ below (4294967295 - n)
     ∙ ap negsuc (omega arith)
     ∙ sym (high n f h)
-
--- the low bits of a word are its bits; of a sum, the sum of the bits
-pub low-word : (x : ℤ) → SFits w32 x → low x ≡ ofZ w32 x
-unfolding low
-low-word (pos n) f = let h : n < 2 ^ 31 = f .sfits in omega arith
-low-word (negsuc n) f = let h : n < 2 ^ 31 = f .sfits in omega arith
-
-low-sub : (a b : ℕ) → low (subℕ a (suc b)) ≡ (a % 2 ^ 32 + (2 ^ 32 - suc (b % 2 ^ 32))) % 2 ^ 32
-unfolding low
-low-sub a b = go (ltb a (suc b)) refl
-  where
-    go : (t : Bool) → ltb a (suc b) ≡ t → low (subℕ a (suc b)) ≡ (a % 2 ^ 32 + (2 ^ 32 - suc (b % 2 ^ 32))) % 2 ^ 32
-    go true e = let h : a < suc b = ltb-true a (suc b) e in ap low (less-sub a (suc b) h) ∙ omega arith
-    go false e = let h : suc b ≤ a = ltb-false a (suc b) e in ap low (more-sub a (suc b) h) ∙ omega arith
-
-pub low-sum : (a b : ℤ) → low (a +ℤ b) ≡ (low a + low b) % 2 ^ 32
-unfolding low
-low-sum (pos a) (pos b) = omega arith
-low-sum (pos a) (negsuc b) = low-sub a b
-low-sum (negsuc a) (pos b) = low-sub b a ∙ omega arith
-low-sum (negsuc a) (negsuc b) = omega arith
-
-low-small : (z : ℤ) → low z < 2 ^ 32
-unfolding low
-low-small (pos n) = omega arith
-low-small (negsuc n) = omega arith
-
--- what code makes of the bits of two words is the word of their sum, and of their difference
-module _
-    {a b : ℤ} (r : ℤ) {p q : ℕ} (n : ℕ) (f : SFits w32 a) (g : SFits w32 b) (h : SFits w32 r)
-    (ea : p ≡ ofZ w32 (toZ w32 (ofZ w32 a))) (eb : q ≡ ofZ w32 (toZ w32 (ofZ w32 b))) (er : r ≡ toZ w32 n)
-  where
-    word-a : p ≡ low a
-    word-a = rw (ea, toZ-ofZ f, low-word a f)
-
-    word-b : q ≡ low b
-    word-b = rw (eb, toZ-ofZ g, low-word b g)
-
-    pub added : n ≡ (p + q) % 2 ^ 32 → toZ w32 (ofZ w32 r) ≡ plus a b
-    unfolding plus wrap
-    added e = let s : n ≡ low (a +ℤ b) = rw (e, word-a, word-b, low-sum a b) in toZ-ofZ h ∙ er ∙ ap (toZ w32) s
-
-    pub subtracted : n < 2 ^ 32 → (n + q) % 2 ^ 32 ≡ p → toZ w32 (ofZ w32 r) ≡ wrap (a -ℤ b)
-    unfolding wrap
-    subtracted small e =
-        let s : n ≡ low (a -ℤ b) =
-        omega (arith, word-a, word-b, low-small (a -ℤ b), low-small b, low-sum (a -ℤ b) b, ap low (-ℤ-+ℤ-cancel a b)) in
-        toZ-ofZ h ∙ er ∙ ap (toZ w32) s
-
-pub zero-minus : (m r : ℤ) → SFits w32 m → SFits w32 r → r ≡ wrap (pos 0 -ℤ toZ w32 (ofZ w32 m)) → toZ w32 (ofZ w32 r) ≡ minus m
-unfolding minus
-zero-minus m r f h e = toZ-ofZ h ∙ e ∙ ap wrap (ap (λ (z : ℤ). pos 0 -ℤ z) (toZ-ofZ f) ∙ +ℤ-idl (negℤ m))
 
 -- a word's bits are 0 where it is
 not-zero : (n : ℕ) → SFits w32 (negsuc n) → ofZ w32 (negsuc n) ≡ 0 → ⊥
