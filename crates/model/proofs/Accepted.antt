@@ -334,4 +334,4 @@ refuses t x e = go (read t) refl e
 pub code-transfer : (E : Env) (Γ : ℕ) (ρ : List ℕ) (C : List Statement) (T : Transfer) → WF-code E Γ ρ C T → (Δ : ℕ) × WF-transfer E Δ ρ T
 unfolding WF-code
 code-transfer E Γ ρ [] T w = (Γ, w)
-code-transfer E Γ ρ (s ∷ C) T w = code-transfer E _ ρ C T w.2
+code-transfer E Γ ρ (s ∷ C) T w = code-transfer E (with Γ s.target) ρ C T w.2

@@ -313,7 +313,9 @@ same-tree ts h e = subst (λ i. trees i ts ≡ true) e h
 -- a thread with no children is a tree
 leaf-tree : (n : ℕ) (t : Thread) (ts : List Thread) → children (frames t) ≡ 0 → trees (suc n) (t ∷ ts) ≡ trees n ts
 unfolding trees
-leaf-tree n t ts e = rw (e, zero-add)
+leaf-tree n t ts e =
+    let z : children (frames t) + n ≡ n = omega (arith, e) in
+    ap (λ (m : ℕ). trees m ts) z
 
 module _ {P : Program} (L : Limits P) where
   -- an ended thread has no children

@@ -15,6 +15,7 @@ use Rattle.model.specs.Numbers as No
 use Rattle.model.specs.Numbers.{Within, RuleOf, StepRefusal, RefusalOf}
 use Rattle.model.specs.Answers.{Refusal, Answer, with}
 use Rattle.model.specs.Lists.{Each, equal, unsnoc}
+use Rattle.model.specs.Sets
 use Rattle.model.specs.Values.{same}
 use Rattle.model.specs.Syntax.{Statement, Transfer, Head, Block, Function, Program}
 use Rattle.model.specs.Read as Read
@@ -347,12 +348,12 @@ transfer-only E Γ ρ (Transfer.spoin b c) =
 code-only : (E : Env) (Γ : ℕ) (ρ : List ℕ) (C : List Statement) (T : Transfer) → Only Blocks (Check.code E Γ ρ C T)
 unfolding Check.code Check.bound
 code-only E Γ ρ [] T = transfer-only E Γ ρ T
-code-only E Γ ρ (s ∷ C) T = (refl, (refl, code-only E _ ρ C T))
+code-only E Γ ρ (s ∷ C) T = (refl, (refl, code-only E (Sets.with Γ s.target) ρ C T))
 
 fresh-only : (Γ : ℕ) (x̄ : List ℕ) → Only Blocks (Check.fresh Γ x̄)
 unfolding Check.fresh
 fresh-only Γ [] = tt
-fresh-only Γ (x ∷ x̄) = (refl, fresh-only _ x̄)
+fresh-only Γ (x ∷ x̄) = (refl, fresh-only (Sets.with Γ x) x̄)
 
 block-only : (E : Env) (b : ℕ) (B : Block) → Only Blocks (Check.block E b B)
 unfolding Check.block Check.nested

@@ -97,7 +97,7 @@ part-with {Γ} {Δ} x p = record { each = λ y h. go y h (ℕ_discrete y x) }
 pub part-with_all : {Γ Δ : ℕ} (x̄ : List ℕ) → Part Γ Δ → Part (with_all Γ x̄) (with_all Δ x̄)
 unfolding with_all
 part-with_all [] p = p
-part-with_all (x ∷ x̄) p = part-with_all x̄ (part-with x p)
+part-with_all {Γ = Γ} {Δ = Δ} (x ∷ x̄) p = part-with_all {Γ = with Γ x} {Δ = with Δ x} x̄ (part-with x p)
 
 pub part-all : (Γ : ℕ) (x̄ : List ℕ) → Part Γ (with_all Γ x̄)
 unfolding with_all
