@@ -13,7 +13,7 @@ use Rattle.model.specs.Pool.{function_at, block_at, done_at, bound_at, opened_at
 use Rattle.model.specs.Pool.{thread_count_at, threads_at, thread_start, runs, word_at, count_at, frame_of, thread_of, pool_of}
 use Rattle.model.proofs.Facts.{none-some, some-injective}
 use Rattle.views.specs.Means.{IsValue, Agree}
-use Rattle.views.proofs.Hidden.{hidden, hide}
+use Rattle.views.proofs.Unseen.{hidden, hide}
 
 -- what stands at a place of a part of a list
 module _ {A : Type 0} where

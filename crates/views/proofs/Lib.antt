@@ -1,6 +1,6 @@
 pub mod Grown
 pub mod Trees
-pub mod Hidden
+pub mod Unseen
 pub mod Agreeing
 pub mod Private
 pub mod Erased

@@ -16,7 +16,7 @@ use Rattle.model.proofs.Words.{lent-given, pool-back}
 use Rattle.views.specs.Lines.{Viewer}
 use Rattle.views.specs.Listing.{listing, listed, list, operator}
 use Rattle.views.specs.Means.{Same, Private}
-use Rattle.views.proofs.Hidden.{hide, operator-hidden}
+use Rattle.views.proofs.Unseen.{hide, operator-hidden}
 use Rattle.views.proofs.Agreeing.{pool-same}
 
 -- the same bytes into outputs equally long
