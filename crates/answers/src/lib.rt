@@ -1,4 +1,6 @@
 // What every call answers: document 01's numbers and rules by name, one refusal, and a refusal as one number for hosts.
+#![tactic(auto)]
+
 ghost use Rattle.std.specs.Prelude.{◌≡◌};
 ghost use Rattle.model.specs.Answers as Model;
 ghost use Rattle.answers.specs.Answers.{refusal_of};

@@ -1,5 +1,7 @@
 // Bytes into lent bytes. Each function is given the place where its bytes begin, and gives the place behind them. What does not fit is
 // counted and not written.
+#![tactic(auto)]
+
 ghost use Rattle.std.specs.Prelude.{◌+◌, ◌-◌, ◌^◌, ◌≤◌, min, ◌≡◌, [], ◌∷◌, length};
 ghost use Rattle.std.proofs.lemmas.List.Edits.{sets};
 ghost use Rattle.model.specs.Write as Write;
