@@ -1,6 +1,8 @@
 // What stands at an offset of a table, and where it ends: bytes and numbers, argument lists, atoms, expressions, statements, heads,
 // spawn calls and transfers. Every function takes any bytes and any offset, and has an equation for its contract: past the end
 // bytes are 0, and an offset moves on by a wrapping sum, which within a table is the sum.
+#![tactic(auto)]
+
 ghost use Rattle.std.specs.Prelude.{◌≡◌, ◌+◌, ◌-◌, min, length};
 ghost use Rattle.model.specs.Values.{signed};
 ghost use Rattle.code.specs.Bytes.{byte_at, past, half_at, word_at, operands};

@@ -1,5 +1,7 @@
 // The places of a table: where each function, block and spawn call begins, in one array of offsets; marking them, and looking them
 // up by number; and how long each block's head is, so that its code is found without a walk over the head.
+#![tactic(auto)]
+
 ghost use Rattle.std.specs.Prelude.{◌≡◌, ◌<◌};
 ghost use Rattle.places.specs.Layout.{functions, spawns, blocks};
 ghost use Rattle.places.specs.Marks.{nowhere, short, mark_function, mark_spawn, mark_block, mark_head, paired, length_of};

@@ -3,7 +3,6 @@ use native.Mathlib.Omega.{arith}
 use Rattle.words.proofs.Signs.{negative, positive}
 use Rattle.words.proofs.bits.Goals as goal
 
--- `words::bits`: the 32 bits of a signed word, as an unsigned number.
 pub overflow_sub-result : goal.overflow_sub-result
 overflow_sub-result c = let h = negative _ c.ranges.x c.if-x-lt0.true in rw h.gap (record { sfits = h.small })
 

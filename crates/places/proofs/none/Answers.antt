@@ -1,0 +1,8 @@
+-- `places::none`: every entry is stored at once.
+use mathlib.Core.Path.{refl}
+use Rattle.places.specs.Marks.{nowhere}
+use Rattle.places.proofs.none.Goals as goal
+
+pub returns : goal.returns
+unfolding nowhere
+returns c = refl
