@@ -165,7 +165,8 @@ module _ (s : List ℕ) (I : List ℤ → Type 0)
 
   turns-kept : (ws : List ℤ) (ps : List Put) (ws' : List ℤ) → InTurn s ws ps ws' → I ws → I ws'
   turns-kept ws [] ws' h g = carried h g
-  turns-kept ws (p ∷ ps) ws' h g = turns-kept (Calls.choose s p.words p.kind p.thread).after ps ws' h.1 (kept p.words (carried h.0 g) p.kind p.thread)
+  turns-kept ws (p ∷ ps) ws' h g =
+      turns-kept (Calls.choose s p.words p.kind p.thread).after ps ws' h.1 (kept p.words (carried h.0 g) p.kind p.thread)
 
   pub finally-kept : {ws : List ℤ} (cs : List Call) → I ws → I (finally s ws cs)
   finally-kept {ws} cs g = turns-kept ws (choices s ws cs) (finally s ws cs) (faithful s ws cs) g
