@@ -284,7 +284,8 @@ module _ (s t : List ℕ) (P Q : Program) (R : Numbering) (r : read s ≡ Answer
       let e = hold-answer g c.kind c.thread in
       let h = hold-after g c.kind c.thread in
       rw e (ap {B = List (Answer ℕ)} (λ as'. (Calls.choose t ws' c.kind c.thread).answer ∷ as')
-      (while-answers (Calls.choose t ws' c.kind c.thread).answer _ _ (schedule-answers {ws = (Calls.choose s ws c.kind c.thread).after} cs h)))
+      (while-answers (Calls.choose t ws' c.kind c.thread).answer _ _
+      (schedule-answers {ws = (Calls.choose s ws c.kind c.thread).after} cs h)))
 
   beat-answers : {ws ws' : List ℤ} (i N C : ℕ) → Held ws ws' → answers s (of_beat s ws i N C) ≡ answers t (of_beat t ws' i N C)
   beat-answers {ws} {ws'} i N C g = rw (answers-told s ws i N C, answers-told t ws' i N C, beat-answer g i N C)
@@ -295,7 +296,8 @@ module _ (s t : List ℕ) (P Q : Program) (R : Numbering) (r : read s ≡ Answer
   run-answers {ws} {ws'} N C (i ∷ is) g =
       map-append _ (of_beat s ws i N C) _ ∙
       ap₂ {C = List (Answer ℕ)} ◌++◌ (beat-answers i N C g)
-      (rw (beat-answer g i N C) (while-answers (Beats.beat t ws' i N C).answer _ _ (run-answers {ws = (Beats.beat s ws i N C).after} N C is (hold-beat g i N C)))) ∙
+      (rw (beat-answer g i N C) (while-answers (Beats.beat t ws' i N C).answer _ _
+      (run-answers {ws = (Beats.beat s ws i N C).after} N C is (hold-beat g i N C)))) ∙
       sym (map-append _ (of_beat t ws' i N C) _)
 
   call-answers : {ws ws' : List ℤ} (c : Call) → Held ws ws' → answers s (of_call s ws c) ≡ answers t (of_call t ws' c)
