@@ -35,9 +35,12 @@ lackings Γ Δ (x ∷ x̄) (h, hs) = rw (holds_has Γ x h, binding-with Δ x h) 
 pub neededs : (Γ Δ : ℕ) (C : List Statement) → Each InStatement C → needed_in Γ Δ C ≡ needing Γ Δ C
 unfolding needed_in needing
 neededs Γ Δ [] h = refl
-neededs Γ Δ (S ∷ C) (h, hs) = rw (binding-with Γ S.target h.target, lackings Γ Δ (uses S.source) h.source) (neededs (with Γ S.target) (lacking Γ Δ (uses S.source)) C hs)
+neededs Γ Δ (S ∷ C) (h, hs) =
+    rw (binding-with Γ S.target h.target, lackings Γ Δ (uses S.source) h.source)
+    (neededs (with Γ S.target) (lacking Γ Δ (uses S.source)) C hs)
 
-pub joineds : (Γ Δ : ℕ) (scope : ℕ → ℕ) (Γs b̄ : List ℕ) → ((b : ℕ) → scope b ≡ get_or Γs b 0) → joined_in Γ Δ scope b̄ ≡ joined_all Γ Δ Γs b̄
+pub joineds : (Γ Δ : ℕ) (scope : ℕ → ℕ) (Γs b̄ : List ℕ) → ((b : ℕ) → scope b ≡ get_or Γs b 0)
+    → joined_in Γ Δ scope b̄ ≡ joined_all Γ Δ Γs b̄
 unfolding joined_in joined_all
 joineds Γ Δ scope Γs [] e = refl
 joineds Γ Δ scope Γs (b ∷ b̄) e = rw (e b) (joineds Γ (joined Γ Δ (get_or Γs b 0)) scope Γs b̄ e)
@@ -125,7 +128,8 @@ module _ (s : List ℕ) (at Γ Δ : ℕ) {b : ℕ} (e : b ≡ byte_at s at) wher
       → r ≡ lacking_in Γ Δ (uses_atom (atom_at s at))
   atom-temporary h q y d = rw (temporary-uses s at (λ w. h (e ∙ w)), ← q, ← y) d
 
-module _ (s : List ℕ) (at Γ Δ : ℕ) {f m b o : ℕ} (q : f ≡ past at 1) (a : m ≡ lacking_in Γ Δ (uses_atom (atom_at s f))) (e : b ≡ byte_at s at)
+module _ (s : List ℕ) (at Γ Δ : ℕ) {f m b o : ℕ} (q : f ≡ past at 1) (a : m ≡ lacking_in Γ Δ (uses_atom (atom_at s f)))
+    (e : b ≡ byte_at s at)
     (d : o ≡ operands b) where
   pub expression-one : (o ≡ 2 → ⊥) → m ≡ lacking_in Γ Δ (uses (expression_at s at))
   unfolding expression_at
@@ -179,13 +183,15 @@ code-walked s at Γ Δ q e d z = rw (z, d, q, e)
 
 -- what a transfer uses itself
 module _ (s : List ℕ) (at Γ Δ : ℕ) {first kind : ℕ} (f : first ≡ past at 1) (k : kind ≡ byte_at s at) {r : ℕ} where
-  pub used-goto : {x : ℕ} → kind ≡ 0 → x ≡ past first 1 → r ≡ lacking_in Γ Δ (arguments_at s x) → r ≡ lacking_in Γ Δ (used_by (transfer_at s at))
+  pub used-goto : {x : ℕ} → kind ≡ 0 → x ≡ past first 1 → r ≡ lacking_in Γ Δ (arguments_at s x)
+      → r ≡ lacking_in Γ Δ (used_by (transfer_at s at))
   used-goto z e d = rw (uses-goto s at f k z e) d
 
   pub used-if : kind ≡ 1 → r ≡ lacking_in Γ Δ (uses (expression_at s first)) → r ≡ lacking_in Γ Δ (used_by (transfer_at s at))
   used-if z d = rw (uses-if s at f k z) d
 
-  pub used-call : {x : ℕ} → kind ≡ 2 → x ≡ past first 1 → r ≡ lacking_in Γ Δ (arguments_at s x) → r ≡ lacking_in Γ Δ (used_by (transfer_at s at))
+  pub used-call : {x : ℕ} → kind ≡ 2 → x ≡ past first 1 → r ≡ lacking_in Γ Δ (arguments_at s x)
+      → r ≡ lacking_in Γ Δ (used_by (transfer_at s at))
   used-call z e d = rw (uses-call s at f k z e) d
 
   pub used-return : kind ≡ 3 → r ≡ lacking_in Γ Δ (arguments_at s first) → r ≡ lacking_in Γ Δ (used_by (transfer_at s at))

@@ -7,7 +7,8 @@ use Rattle.kept.proofs.Ends.{BlocksLeft}
 use Rattle.kept.proofs.blocks.Given as goal
 
 abbrev pub invariant-loop-i : goal.invariant-loop-i
-invariant-loop-i l = (length l.list ≡ length l.initial.list) × (l.n < 256) × BlocksLeft l.s l.transfers l.f l.initial.list l.initial.n l.list l.n l.i
+invariant-loop-i l = (length l.list ≡ length l.initial.list) × (l.n < 256)
+    × BlocksLeft l.s l.transfers l.f l.initial.list l.initial.n l.list l.n l.i
 
 abbrev pub decreases-loop-i : goal.decreases-loop-i
 decreases-loop-i l = Layout.blocks - l.i

@@ -8,7 +8,8 @@ use Rattle.kept.proofs.Loops.{Blocks}
 use Rattle.kept.proofs.spawns.Given as goal
 
 abbrev pub invariant-loop-i : goal.invariant-loop-i
-invariant-loop-i l = (length l.list ≡ length l.initial.list) × (l.i ≤ l.count) × Blocks (Known l.s l.places l.transfers) l.f l.blocks l.count spawns_in l.initial.list 0 l.list l.n l.i
+invariant-loop-i l = (length l.list ≡ length l.initial.list) × (l.i ≤ l.count)
+    × Blocks (Known l.s l.places l.transfers) l.f l.blocks l.count spawns_in l.initial.list 0 l.list l.n l.i
 
 abbrev pub decreases-loop-i : goal.decreases-loop-i
 decreases-loop-i l = l.count - l.i
