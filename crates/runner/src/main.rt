@@ -1,8 +1,15 @@
 // The program: standard input is read, and what `flow` makes of it is written to standard output. Nothing else happens here.
+#![tactic(auto)]
+
 use flow::{Bytes, Run};
-use libc::{STDERR_FILENO, STDIN_FILENO, STDOUT_FILENO};
 use places::Places;
 use pool::Pool;
+use std::env::{Env, FillError};
+use std::io::{Read, Stdin};
+
+// Where text and messages go.
+const STDOUT_FILENO: i32 = 1;
+const STDERR_FILENO: i32 = 2;
 
 // Where the verdict goes, if it is asked for.
 const VERDICT_FILENO: i32 = 3;
@@ -45,6 +52,7 @@ fn finish(
 // The input, piece by piece, until the run is closed to it: each piece is fed as soon as it has come, and its text written. A loop has
 // to end, and nothing says that the input does: the pieces are counted down from a number that no run uses up.
 fn serve(
+    input: &mut Stdin,
     table: &mut [u8; Bytes::TABLE],
     places: &mut Places,
     ws: &mut [i32; Pool::WORDS],
@@ -57,15 +65,16 @@ fn serve(
         if flow::closed(run) {
             break;
         }
-        let got = libc::read(STDIN_FILENO, piece);
-        if got < 0 {
-            io::write_all(STDERR_FILENO, b"mezdaulk: standard input cannot be read\n");
-            return Outcome::Failed;
-        }
-        if got == 0 {
+        let n = match input.read(piece) {
+            Ok(n) => n,
+            Err(_) => {
+                io::write_all(STDERR_FILENO, b"mezdaulk: standard input cannot be read\n");
+                return Outcome::Failed;
+            }
+        };
+        if n == 0 {
             break;
         }
-        let n = io::count(got, piece);
         run = flow::feed(table, places, ws, out, run, flow::front(piece, n));
         if !print(out, run.said) {
             return Outcome::Failed;
@@ -75,10 +84,20 @@ fn serve(
     finish(table, places, ws, out, run)
 }
 
+// Whether the program was started with an argument.
+fn is_asked(rt: &HostRuntime) -> bool {
+    let mut word = [0u8; 1];
+    match rt.arg(1, &mut word) {
+        Ok(_) => true,
+        Err(FillError::TooLong) => true,
+        Err(FillError::NotPresent) => false,
+    }
+}
+
 // The verdict in a line, if the program was started with an argument: 0 where the table was accepted and every choice made, 1 where one
 // was refused, nothing where that cannot be told.
-fn conclude(how: Outcome) {
-    if os::arg_count() < 2 {
+fn conclude(rt: &HostRuntime, how: Outcome) {
+    if !is_asked(rt) {
         return;
     }
     match how {
@@ -93,11 +112,12 @@ fn conclude(how: Outcome) {
     }
 }
 
-fn main() {
+fn main(rt: HostRuntime) {
     let mut table = [0u8; Bytes::TABLE];
     let mut places = places::none();
     let mut ws = [0i32; Pool::WORDS];
     let mut out = [0u8; Bytes::TEXT];
     let mut piece = [0u8; Bytes::PIECE];
-    conclude(serve(&mut table, &mut places, &mut ws, &mut out, &mut piece));
+    let how = serve(&mut rt.stdin(), &mut table, &mut places, &mut ws, &mut out, &mut piece);
+    conclude(&rt, how);
 }

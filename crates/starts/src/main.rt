@@ -1,11 +1,16 @@
 // The program `starts`: where each frame of a pool begins, by the pool's formula, one number a line. It reads nothing.
+#![tactic(auto)]
+
 ghost use Rattle.std.specs.Prelude.{◌≡◌, ◌<◌};
 ghost use Rattle.model.specs.Pool.{most_threads, most_frames, start_of};
 ghost use Rattle.puts.specs.Puts.{Puts};
 ghost use Rattle.starts.specs.Starts.{in_turn, line, printed};
 
-use libc::{STDERR_FILENO, STDOUT_FILENO};
 use pool::Pool;
+
+// Where the text goes, and a message.
+const STDOUT_FILENO: i32 = 1;
+const STDERR_FILENO: i32 = 2;
 
 // How long the text can get: a line is four digits and its end at most.
 #[derive(Drop)]
@@ -52,7 +57,7 @@ fn print(text: &[u8]) -> bool
     io::write_all(STDOUT_FILENO, text)
 }
 
-fn main() {
+fn main(_rt: HostRuntime) {
     let mut out = [0u8; Text::BYTES];
     let n = lines(&mut out);
     if !print(&out[..n]) {
