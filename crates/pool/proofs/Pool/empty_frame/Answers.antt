@@ -4,9 +4,8 @@ use Rattle.model.specs.Lists.{pad}
 use Rattle.model.specs.Sets.{below}
 use Rattle.model.specs.Pool.{begin}
 use Rattle.pool.specs.Frame.{model_of}
-use Rattle.pool.proofs.Pool.empty_frame.Statement.{statement}
-use Rattle.pool.proofs.Pool.empty_frame.Tie as tie
+use Rattle.pool.proofs.Pool.empty_frame.Goals as goal
 
-pub empty-frame-spec : {M : Type 1} → statement M
+pub returns : goal.returns
 unfolding model_of begin below pad
-empty-frame-spec = tie.close (tie.spec (λ c. refl))
+returns c = refl
