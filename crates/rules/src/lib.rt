@@ -1,5 +1,7 @@
 // The ten rules: what the frame at a place of the pool's words does next. The words and the table are read in place; no word is
 // touched. Values that are passed on go into a buffer of the caller's.
+#![tactic(auto)]
+
 ghost use Rattle.std.specs.Prelude.{◌≡◌, ◌+◌, ◌≤◌, min, length};
 ghost use Rattle.model.specs.Numbers as Numbers;
 ghost use Rattle.model.specs.Pool.{frame_words};
