@@ -20,7 +20,7 @@ use pool::Pool;
 // enters `block` with spawn call `number` open, or with its last call closed; it calls function `number` and waits at `block`; it
 // returns; it waits at a promoted spoin to go to block `number`. A block that is entered by a rule has its parameters at
 // `parameters`. Values that are passed on, for the parameters, to the function, to the caller, are the first `count` of the buffer.
-#[derive(Drop)]
+#[derive(Clone, Copy, Drop)]
 pub enum Does {
     Refuse,
     Bind,
