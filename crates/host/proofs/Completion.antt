@@ -83,7 +83,8 @@ reads-2 s P e c k =
 
 -- the parts of a fault's number
 fault-parts : (n f b : ℕ) → n < 256 → f < 16 → b < 256 →
-    (number (code_of (Refusal.fault n f b)) ≡ n) × (function (code_of (Refusal.fault n f b)) ≡ f) × (block (code_of (Refusal.fault n f b)) ≡ b)
+    (number (code_of (Refusal.fault n f b)) ≡ n) × (function (code_of (Refusal.fault n f b)) ≡ f) ×
+    (block (code_of (Refusal.fault n f b)) ≡ b)
 fault-parts n f b h i j = (omega arith, omega arith, omega arith)
 
 -- a completion that is refused

@@ -9,14 +9,16 @@ use lib.ListN.{length, get_or, replicate, get_or-append}
 use lib.Seq.{get_or-append-add}
 use Rattle.model.specs.Lists.{Each, pad, concat}
 use Rattle.model.specs.Values.{number}
-use Rattle.model.specs.Pool.{Thread, Pool, most_threads, frame_count_at, thread_words, thread_start, frames, words_of_thread, words_of, word_at}
+use Rattle.model.specs.Pool.{Thread, Pool, most_threads, frame_count_at, thread_words, thread_start, frames}
+use Rattle.model.specs.Pool.{words_of_thread, words_of, word_at}
 use Rattle.model.specs.Valid.{ThreadFits}
 use Rattle.model.proofs.Facts.{same_at}
 use Rattle.model.proofs.Words.{thread-count, thread-length}
 use Rattle.host.specs.Roomy.{frame_count}
 
 -- word `at` of a thread's words is f of the thread
-module _ (at : ℕ) (inside : at < thread_words) (f : Thread → ℕ) (is : (t : Thread) → get_or (words_of_thread t) at (pos 0) ≡ pos (f t)) where
+module _ (at : ℕ) (inside : at < thread_words) (f : Thread → ℕ)
+    (is : (t : Thread) → get_or (words_of_thread t) at (pos 0) ≡ pos (f t)) where
   threads-at : (n : ℕ) (p : Pool) (i : ℕ) → Each ThreadFits p →
       number (get_or (concat (map words_of_thread p) ++ replicate n (pos 0)) (thread_words * i + at) (pos 0)) ≡ get_or (map f p) i 0
   unfolding concat

@@ -448,7 +448,8 @@ which-law s ws r e =
     let a = Calls.which s ws in
     let R = Numbers.OfLent s in
     let can = which-can s ws in
-    let found : is_given (stepper_of a) ≡ true → Gave thread Eight a (stepper_of a) = gave stepper-code Eight R eight-room lent_fits a can in
+    let found : is_given (stepper_of a) ≡ true → Gave thread Eight a (stepper_of a) =
+    gave stepper-code Eight R eight-room lent_fits a can in
     let is : (v : Gave thread Eight a (stepper_of a)) → Right s ws (Answer.given v.what) = λ v. subst (Right s ws) v.is (right s ws) in
     rw e
     (record {

@@ -110,7 +110,8 @@ module _ (s : List ℕ) where
 
   turns-log : (ws : List ℤ) (ps : List Model.Put) (w : List ℤ) → InTurn s ws ps w → Log s ws (map numbered ps) w
   turns-log ws [] w h = h
-  turns-log ws (p ∷ ps) w h = (h.0, (_, record { number = refl; words = refl }, turns-log _ ps w h.1))
+  turns-log ws (p ∷ ps) w h =
+      (h.0, (_, record { number = refl; words = refl }, turns-log (Calls.choose s p.words p.kind p.thread).after ps w h.1))
 
   -- the choices with these answers lead from the words ws to the words ws'
   record Through (ws : List ℤ) (ts : List Turn) (ws' : List ℤ) : Type 0 where

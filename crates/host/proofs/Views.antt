@@ -68,7 +68,8 @@ asked s ws w e = go (lent s ws) refl (lent-can s ws)
 
 -- what a listing comes to: a refusal of the table or the words; the listing; or 28
 module _ (who : Viewer) (s : List ℕ) (ws : List ℤ) where
-  not-lent : (out : List ℕ) (q : Refusal) → lent s ws ≡ Answer.refused q → list who s ws out ≡ record { answer = Answer.refused q; after = out }
+  not-lent : (out : List ℕ) (q : Refusal) → lent s ws ≡ Answer.refused q →
+      list who s ws out ≡ record { answer = Answer.refused q; after = out }
   unfolding list listed
   not-lent out q e = rw e refl
 
@@ -87,7 +88,8 @@ module _ (who : Viewer) (s : List ℕ) (ws : List ℤ) where
       that-fits : length text ≤ length out → Put out text r out'
       that-fits f = was-put out text r out' m (omega (arith, long)) (is-put ∙ put-fits No.listing out text f)
 
-      that-is-short : length out < length text → (r ≡ code_of (Refusal.plain No.listing)) × (answer_in r ≡ Answer.refused (Refusal.plain No.listing))
+      that-is-short : length out < length text →
+          (r ≡ code_of (Refusal.plain No.listing)) × (answer_in r ≡ Answer.refused (Refusal.plain No.listing))
           × (is_given r ≡ false)
       that-is-short f =
           was-refused out (Refusal.plain No.listing) r out' m (Bare.of_later (lit≤ tt, lit≤ tt)) (is-put ∙ put-short No.listing out text f)

@@ -299,8 +299,8 @@ unfolding all
     Write.transfer Write.head Write.block_by Write.spawn_call Write.function_by Write.program_by Write.table Filled.put Filled.filled_from
     Filled.filled Infer.upward Infer.downward Infer.sweep Infer.rounds Infer.at Infer.opened Infer.front Infer.closed Infer.under
     Infer.first Infer.mark Infer.mark_all Infer.leads Infer.lead Infer.entered Infer.marks Infer.lacking Infer.joined Infer.needing
-    Infer.used_by Infer.joined_all Infer.arguments_of Infer.nesting_needs Infer.nesting_of Infer.bound_by Infer.used_behind Infer.own Infer.need
-    Infer.grow Infer.given Infer.needed Infer.scopes Infer.infer Infer.completed_function Infer.completed Complete.unmarked
+    Infer.used_by Infer.joined_all Infer.arguments_of Infer.nesting_needs Infer.nesting_of Infer.bound_by Infer.used_behind Infer.own
+    Infer.need Infer.grow Infer.given Infer.needed Infer.scopes Infer.infer Infer.completed_function Infer.completed Complete.unmarked
     Complete.reached_or Complete.reached Complete.impossible Complete.possible inferred enough cleared Complete.finish Complete.lend
     complete answered
 every = Unit {0}

@@ -52,7 +52,7 @@ joins-with {Γ} {Λ} {Θ} x j = record { into = λ y h. into y h (ℕ_discrete y
 joins-all : {Γ Λ Θ : ℕ} (x̄ : List ℕ) → Joins Γ Λ Θ → Joins (with_all Γ x̄) Λ (with_all Θ x̄)
 unfolding with_all
 joins-all [] j = j
-joins-all (x ∷ x̄) j = joins-all x̄ (joins-with x j)
+joins-all {Γ = Γ} (x ∷ x̄) j = joins-all {Γ = with Γ x} x̄ (joins-with x j)
 
 -- the arguments of a spawn call that is there
 spawn-arguments : (F : Function) (π Λ : ℕ) {S : SpawnCall} → get_elem? F.spawns π ≡ some S →
@@ -86,7 +86,7 @@ module _ (F : Function) (E : Env) (Γs : List ℕ) (spawns : (π : ℕ) → E.sp
   code-met : {Γ Λ Θ : ℕ} (ρ : List ℕ) (C : List Statement) (T : Transfer) → Joins Γ Λ Θ → WF-code E Θ ρ C T → Met Γ Λ Γs C T
   unfolding Met WF-code
   code-met ρ [] T j w = transfer-met ρ T j w
-  code-met ρ (s ∷ C) T j w = (each_map j.into (uses s.source) w.0, code-met ρ C T (joins-with s.target j) w.2)
+  code-met {Γ = Γ} ρ (s ∷ C) T j w = (each_map j.into (uses s.source) w.0, code-met {Γ = with Γ s.target} ρ C T (joins-with s.target j) w.2)
 
   pub passing-suits : (g : Scoping) (B : Block) → WF-block E (put g B) → Suits F g.nesting Γs g.scope B
   unfolding put
@@ -101,7 +101,7 @@ module _ (F : Function) (E : Env) (Γs : List ℕ) (spawns : (π : ℕ) → E.sp
 fresh-part : {Γ Δ : ℕ} (x̄ : List ℕ) → Part Γ Δ → Fresh Δ x̄ → Fresh Γ x̄
 unfolding Fresh
 fresh-part [] p f = tt
-fresh-part (x ∷ x̄) p f = (part-absent x p f.0, fresh-part x̄ (part-with x p) f.1)
+fresh-part {Γ = Γ} (x ∷ x̄) p f = (part-absent x p f.0, fresh-part {Γ = with Γ x} x̄ (part-with x p) f.1)
 
 -- a head with another scope
 abbrev pub rescoped : ℕ → Head → Head
@@ -157,11 +157,11 @@ module _ (F : Function) (E : Env) (Γs : List ℕ) (spawns : (π : ℕ) → E.sp
       WF-code E Ψ ρ C T → WF-code inside Θ ρ C T
   unfolding Met WF-code
   code_inside {Ψ} ρ [] T j p m w = transfer-inside Ψ ρ T j m w
-  code_inside ρ (s ∷ C) T j p m w =
+  code_inside {Γ = Γ} ρ (s ∷ C) T j p m w =
       let x = s.target in (
         each_map j.from (uses s.source) m.0,
         part-absent x p w.1,
-        code_inside ρ C T (joins-with x j) (part-with x p) m.1 w.2,
+        code_inside {Γ = with Γ s.target} ρ C T (joins-with x j) (part-with x p) m.1 w.2,
       )
 
   pub suits-passing : (g : Scoping) (Λ : ℕ) (B : Block) → Part Λ g.scope → Suits F g.nesting Γs Λ B → WF-block E (put g B) →

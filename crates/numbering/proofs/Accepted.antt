@@ -7,6 +7,7 @@ use mathlib.Core.List.{List, [], ◌∷◌, map, map-append}
 use lib.ListN.{get_elem?}
 use Rattle.model.specs.Answers.{Answer}
 use Rattle.model.specs.Lists.{Each}
+use Rattle.model.specs.Sets.{with}
 use Rattle.model.specs.Syntax.{Statement, Transfer, Head, Block, SpawnCall, Signature, Function, Program, targets, sporked_by, called_by}
 use Rattle.model.specs.WellFormed.{Env, env, head_of, signature_of, WF-cont, Callee, Spawned, Innermost, WF-transfer, WF-code}
 use Rattle.model.specs.WellFormed.{Nested, WF-block, WF-spawn, WF-entry, WF-fun, WF-prog}
@@ -89,7 +90,7 @@ module _ {R : Numbering} {f : ℕ} {E D : Env} (F : Finds R f E D) where
       WF-code D Γ (ν ρ) C (Renamed.transfer (names R f) T)
   unfolding WF-code
   code-found Γ ρ [] T h q s g w = transfer-found Γ ρ T h q s g w
-  code-found Γ ρ (x ∷ C) T h q s g w = (w.0, w.1, code-found _ ρ C T h q s g w.2)
+  code-found Γ ρ (x ∷ C) T h q s g w = (w.0, w.1, code-found (with Γ x.target) ρ C T h q s g w.2)
 
   nested-found : (Γ : ℕ) (ρ : List ℕ) → Each (SpawnKept R f) ρ → Each (Nested E Γ) ρ → Each (Nested D Γ) (ν ρ)
   unfolding Renamed.spawn_call spawned-found

@@ -160,7 +160,10 @@ module _ {R : Numbering} {P Q : Program} (c : Copies R P Q) where
       let x̄ = B.head.parameters in
       rw (block-before h b q, block-after h b q, go_to-renamed R k b 0)
       (follows-when (renamed_frame R) (KeptFrame R) (eqb (length x̄) (length v̄)) _ _
-      (record { same = ap some (bind_all-renamed R (go_to k b 0) x̄ v̄); kept = bind_all-kept R (go_to k b 0) x̄ v̄ (go_to-kept R k b 0 h q) }))
+      (record {
+        same = ap some (bind_all-renamed R (go_to k b 0) x̄ v̄);
+        kept = bind_all-kept R (go_to k b 0) x̄ v̄ (go_to-kept R k b 0 h q);
+      }))
 
   -- the first frame of a kept function
   pub callee-follows : (g : ℕ) (v̄ : List ℤ) → FunctionKept R g → Enters (callee P g v̄) (callee Q (R.function g) v̄)

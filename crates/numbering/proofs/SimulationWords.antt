@@ -268,7 +268,7 @@ module _ (s t : List ℕ) (P Q : Program) (R : Numbering) (r : read s ≡ Answer
   hold-finally : {ws ws' : List ℤ} (cs : List Call) → Held ws ws' → Held (finally s ws cs) (finally t ws' cs)
   unfolding finally
   hold-finally [] g = g
-  hold-finally (c ∷ cs) g = hold-finally cs (hold-left g c)
+  hold-finally {ws = ws} (c ∷ cs) g = hold-finally {ws = left s ws c} cs (hold-left g c)
 
   -- the answers of the choices in a list of calls
   while-answers : {A : Type 0} (a : Answer A) (ps qs : List Put) → answers s ps ≡ answers t qs →
@@ -284,7 +284,8 @@ module _ (s t : List ℕ) (P Q : Program) (R : Numbering) (r : read s ≡ Answer
       let e = hold-answer g c.kind c.thread in
       let h = hold-after g c.kind c.thread in
       rw e (ap {B = List (Answer ℕ)} (λ as'. (Calls.choose t ws' c.kind c.thread).answer ∷ as')
-      (while-answers (Calls.choose t ws' c.kind c.thread).answer _ _ (schedule-answers cs h)))
+      (while-answers (Calls.choose t ws' c.kind c.thread).answer _ _
+      (schedule-answers {ws = (Calls.choose s ws c.kind c.thread).after} cs h)))
 
   beat-answers : {ws ws' : List ℤ} (i N C : ℕ) → Held ws ws' → answers s (of_beat s ws i N C) ≡ answers t (of_beat t ws' i N C)
   beat-answers {ws} {ws'} i N C g = rw (answers-told s ws i N C, answers-told t ws' i N C, beat-answer g i N C)
@@ -295,7 +296,8 @@ module _ (s t : List ℕ) (P Q : Program) (R : Numbering) (r : read s ≡ Answer
   run-answers {ws} {ws'} N C (i ∷ is) g =
       map-append _ (of_beat s ws i N C) _ ∙
       ap₂ {C = List (Answer ℕ)} ◌++◌ (beat-answers i N C g)
-      (rw (beat-answer g i N C) (while-answers (Beats.beat t ws' i N C).answer _ _ (run-answers N C is (hold-beat g i N C)))) ∙
+      (rw (beat-answer g i N C) (while-answers (Beats.beat t ws' i N C).answer _ _
+      (run-answers {ws = (Beats.beat s ws i N C).after} N C is (hold-beat g i N C)))) ∙
       sym (map-append _ (of_beat t ws' i N C) _)
 
   call-answers : {ws ws' : List ℤ} (c : Call) → Held ws ws' → answers s (of_call s ws c) ≡ answers t (of_call t ws' c)
@@ -312,7 +314,7 @@ module _ (s t : List ℕ) (P Q : Program) (R : Numbering) (r : read s ≡ Answer
   calls-answers [] g = refl
   calls-answers {ws} {ws'} (c ∷ cs) g =
       map-append _ (of_call s ws c) (choices s (left s ws c) cs) ∙
-      ap₂ {C = List (Answer ℕ)} ◌++◌ (call-answers c g) (calls-answers cs (hold-left g c)) ∙
+      ap₂ {C = List (Answer ℕ)} ◌++◌ (call-answers c g) (calls-answers {ws = left s ws c} cs (hold-left g c)) ∙
       sym (map-append _ (of_call t ws' c) (choices t (left t ws' c) cs))
 
 -- after every list of calls from fresh pools, the two words hold one pool, under the one numbering and the other

@@ -1,6 +1,6 @@
 -- There is one list in the order of first mention.
 use Prim.Native.Nat.{ℕ, zero, suc, ◌+◌, ◌≤◌, ◌<◌}
-use mathlib.Core.Path.{◌≡◌, refl, sym, ◌∙◌, ap}
+use mathlib.Core.Path.{◌≡◌, refl, sym, ◌∙◌, ap, subst}
 use mathlib.Core.Logic.{◌⊎◌, inl, inr}
 use mathlib.Core.Bool.{Bool, true, false}
 use mathlib.Core.List.{List, [], ◌∷◌, ◌++◌, map, append-nil, append_assoc, head-eq_of_cons-eq, tail-eq_of_cons-eq}
@@ -22,7 +22,7 @@ within [] (y ∷ ys) p q z e l h = absurd (omega arith)
 within (x ∷ xs) (y ∷ ys) p q z e l h = go (member-cases z y ys h) (within xs ys p q z (tail-eq_of_cons-eq e) (omega arith))
   where
     go : (z ≡ y) ⊎ (member z ys ≡ true) → (member z ys ≡ true → member z xs ≡ true) → member z (x ∷ xs) ≡ true
-    go (inl i) k = rw (i ∙ sym (head-eq_of_cons-eq e)) (member-head x xs)
+    go (inl i) k = subst (λ (m : ℕ). member m (x ∷ xs) ≡ true) (head-eq_of_cons-eq e ∙ sym i) (member-head x xs)
     go (inr i) k = member-tail z x xs (k i)
 
 -- no member of the beginning stands behind it

@@ -216,8 +216,9 @@ module _ (P : Program) where
   unfolding Rules.on_thread
   stands [] i e = refused-made e
   stands (t ∷ ts) zero e = record { thread = t; there = refl; behind = ts; next = refl; meets = meets t ts e }
-  stands (t ∷ ts) (suc i) e =
-      let s = stands ts i (behind-made t (Rules.on_thread (Rules.step P) ts i) e).1 in
+  stands {p' = p'} (t ∷ ts) (suc i) e =
+      let b = behind-made t (Rules.on_thread (Rules.step P) ts i) e in
+      let s = stands {p' = b.0} ts i b.1 in
       record { thread = s.thread; there = s.there; behind = s.behind; next = s.next; meets = s.meets }
 
 -- a step that makes rule 9 is a join

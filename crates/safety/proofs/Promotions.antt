@@ -79,10 +79,10 @@ module _ (P : Program) where
   unfolding deque
   opens_kept n o = reopen _ refl refl (part-refl _) o
 
-  callers-kept : (n r : ℕ) {k : Frame} {π : ℕ} {K K' : List Frame} → Promoted k π K K' → Callers P n K r → Callers P n K' r
+  callers-kept : {k : Frame} {π : ℕ} (n r : ℕ) {K K' : List Frame} → Promoted k π K K' → Callers P n K r → Callers P n K' r
   unfolding deque
   callers-kept n r (Promoted.here {K = K} e) c = (c.0, opens_kept _ c.1, c.2)
-  callers-kept n r (Promoted.under q) c = (c.0, c.1, callers-kept _ r q c.2)
+  callers-kept n r (Promoted.under q) c = (c.0, c.1, callers-kept c.0.signature.returns r q c.2)
 
   runs-kept : {F : Function} {k : Frame} (n : ℕ) → Runs P F k → Runs P F (deque k k.calls n)
   unfolding deque
@@ -103,9 +103,9 @@ module _ (P : Program) where
     takes : ℕ
     opens : Opens P function k block takes
 
-  callers-held : (n r : ℕ) {k : Frame} {π : ℕ} {K K' : List Frame} → Promoted k π K K' → Callers P n K r → Held k
+  callers-held : {k : Frame} {π : ℕ} (n r : ℕ) {K K' : List Frame} → Promoted k π K K' → Callers P n K r → Held k
   callers-held n r (Promoted.here e) c = record { function = c.0; block = _; takes = n; opens = c.1 }
-  callers-held n r (Promoted.under q) c = callers-held _ r q c.2
+  callers-held n r (Promoted.under q) c = callers-held c.0.signature.returns r q c.2
 
   stack-held : {F : Function} (r : ℕ) {k : Frame} {π : ℕ} (l : Frame) (K : List Frame) {K' : List Frame} →
       Promoted k π (l ∷ K) K' → Runs P F l → Callers P F.signature.returns K r → Held k

@@ -44,7 +44,7 @@ module _ (s : List ℕ) where
   turns-append : (u v w : List ℤ) (ps qs : List Put) → InTurn s u ps v → InTurn s v qs w → InTurn s u (ps ++ qs) w
   turns-append u v w [] [] h k = aside-again h k
   turns-append u v w [] (q ∷ qs) h k = (aside-again h k.0, k.1)
-  turns-append u v w (p ∷ ps) qs h k = (h.0, turns-append _ v w ps qs h.1 k)
+  turns-append u v w (p ∷ ps) qs h k = (h.0, turns-append (Calls.choose s p.words p.kind p.thread).after v w ps qs h.1 k)
 
 -- the words as choices leave them, each put with its own words
 unfoldable pub left_by : List ℕ → List ℤ → List Put → List ℤ
@@ -165,7 +165,8 @@ module _ (s : List ℕ) (I : List ℤ → Type 0)
 
   turns-kept : (ws : List ℤ) (ps : List Put) (ws' : List ℤ) → InTurn s ws ps ws' → I ws → I ws'
   turns-kept ws [] ws' h g = carried h g
-  turns-kept ws (p ∷ ps) ws' h g = turns-kept _ ps ws' h.1 (kept p.words (carried h.0 g) p.kind p.thread)
+  turns-kept ws (p ∷ ps) ws' h g =
+      turns-kept (Calls.choose s p.words p.kind p.thread).after ps ws' h.1 (kept p.words (carried h.0 g) p.kind p.thread)
 
   pub finally-kept : {ws : List ℤ} (cs : List Call) → I ws → I (finally s ws cs)
   finally-kept {ws} cs g = turns-kept ws (choices s ws cs) (finally s ws cs) (faithful s ws cs) g
@@ -177,7 +178,7 @@ module _ (s : List ℕ) (I : List ℤ → Type 0)
     turns-each ws [] ws' h g = tt
     turns-each ws (p ∷ ps) ws' h g =
         let k = carried h.0 g in
-        (q p.words k p.kind p.thread, turns-each _ ps ws' h.1 (kept p.words k p.kind p.thread))
+        (q p.words k p.kind p.thread, turns-each (Calls.choose s p.words p.kind p.thread).after ps ws' h.1 (kept p.words k p.kind p.thread))
 
     pub call-each : {ws : List ℤ} (c : Call) → I ws → Each Q (of_call s ws c)
     call-each {ws} c g = turns-each ws (of_call s ws c) (left s ws c) (call-in-turn s ws c) g

@@ -396,7 +396,8 @@ pub not-handed : Handed anew (start anew blank).after late → ⊥
 unfolding every
 not-handed h = go (get_elem? (put anew late) 4) refl refl refl refl refl
   where
-    go : (o : Option Put) → get_elem? (put anew late) 4 ≡ o → Option.map (λ p. (reply_to anew p).answer) o ≡ some (Answer.given No.promote) →
+    go : (o : Option Put) → get_elem? (put anew late) 4 ≡ o →
+        Option.map (λ p. (reply_to anew p).answer) o ≡ some (Answer.given No.promote) →
         ◌>>=◌ o (oldest anew) ≡ some 0 → ◌>>=◌ o (spork_of anew (take 4 (put anew late))) ≡ some 1 →
         ◌>>=◌ o (behind anew) ≡ some (born (begin 1 (pos 2 ∷ []))) → ⊥
     go none e made call number child = none-some made

@@ -52,7 +52,7 @@ keeps-all k [] v̄ h = record { function = refl; looks = λ x i. refl }
 keeps-all k (y ∷ ȳ) [] h = record { function = refl; looks = λ x i. refl }
 keeps-all {Γ} k (y ∷ ȳ) (v ∷ v̄) h =
     let p : Part Γ (with Γ y) = record { each = λ x i. with-more Γ y x i } in
-    keeps-trans (keeps-bind k y v h.0) (keeps-part p (keeps-all (bind k y v) ȳ v̄ h.1))
+    keeps-trans (keeps-bind k y v h.0) (keeps-part p (keeps-all {Γ = with Γ y} (bind k y v) ȳ v̄ h.1))
 
 pub keeps-go_to : {Γ : ℕ} (k : Frame) (b n : ℕ) → Keeps Γ k (go_to k b n)
 unfolding go_to look

@@ -3,5 +3,3 @@ pub mod Rules
 pub mod Marks
 pub mod Placed
 pub mod Answered
-pub mod HandsOn
-pub mod Called

@@ -1,4 +1,6 @@
 // A table's bytes: reading them (refusals 1 to 3), and the places of its functions, spawn calls and blocks.
+#![tactic(auto)]
+
 ghost use Rattle.std.specs.Prelude.{◌≡◌};
 ghost use Rattle.model.specs.Read as Read;
 ghost use Rattle.code.specs.Bytes.{byte_at, past, word_at};
@@ -14,7 +16,7 @@ mod grammar;
 mod walk;
 
 // The reader of a table: its bytes and an offset in them.
-#[derive(Drop)]
+#[derive(Clone, Copy)]
 pub struct Reader<'a> {
     pub src: &'a [u8],
     pub at: usize,

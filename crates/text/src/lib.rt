@@ -1,5 +1,7 @@
 // Text into lent bytes: words, decimals and lines. Each function is given the place where its text begins, and gives the place
 // behind it. What does not fit is counted and not written.
+#![tactic(auto)]
+
 ghost use Rattle.model.specs.Text.{newline, decimal, part, signed_part};
 ghost use Rattle.puts.specs.Puts.{Puts};
 
