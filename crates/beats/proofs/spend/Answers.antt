@@ -12,7 +12,10 @@ pub pay-requires : goal.pay-requires
 pay-requires c = search rules
 
 pub returns-then-not-pay : goal.returns-then-not-pay
-returns-then-not-pay c = record { is = spending-stops c.loop-made.invariant.1 c.pay.result c.if-not-pay.true c.pay.ensures; few = search rules }
+returns-then-not-pay c = record {
+  is = spending-stops c.loop-made.invariant.1 c.pay.result c.if-not-pay.true c.pay.ensures;
+  few = search rules;
+}
 
 pub loop-made-preserved : goal.loop-made-preserved
 loop-made-preserved c = (
