@@ -1,5 +1,7 @@
 // Sets of temporaries, and the walks over a table's bytes that ask or extend one: an equation over what stands at an offset,
 // for all bytes and every offset.
+#![tactic(auto)]
+
 ghost use Rattle.std.specs.Prelude.{◌≡◌};
 ghost use Rattle.model.specs.Lists.{all, equal};
 ghost use Rattle.model.specs.Sets.{within};

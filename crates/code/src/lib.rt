@@ -173,7 +173,7 @@ pub fn statements_end(s: &[u8], at: usize, n: u8) -> usize
 
 // A block's head as code has it: the number of its parameters and their offset, its scope, the number of its nesting's names and
 // their offset, and the offset behind.
-#[derive(Drop)]
+#[derive(Clone, Copy)]
 pub struct Opening {
     pub count: u8,
     pub parameters: usize,

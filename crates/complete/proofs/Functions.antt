@@ -41,7 +41,11 @@ nesting-is (suc d) names = let e : suc d - 1 ≡ d = omega arith in rw e
 
 -- where the words hold marks and scopes, they have these for block b
 scoping-is : {words : List ℕ} {ms : List Mark} {Γs : List ℕ} → Held words ms Γs → (b : ℕ) → b < length ms
-    → length (nesting_of (get_or ms b none)) ≤ 4 → scoping_in words b ≡ record { scope = get_or Γs b 0; nesting = nesting_of (get_or ms b none) }
+    → length (nesting_of (get_or ms b none)) ≤ 4 → scoping_in words b ≡ record {
+      scope = get_or Γs b 0;
+      nesting =
+          nesting_of (get_or ms b none);
+    }
 unfolding scoping_in
 scoping-is {words} {ms} {Γs} h b l few =
     let e : nesting_of (get_or ms b none) ≡ digits (level_in words b - 1) (names_in words b) =

@@ -80,7 +80,12 @@ module _ (s places transfers words buffer : List ℕ) {r : Code.Answer} (p : Rea
       long =
           ap length wrote.1
           ∙ length-append (Write.table (completed P)) _
-          ∙ omega (arith, length-drop (length (Write.table (completed P))) buffer, ap length z ∙ blank-length, (completed-holds s P d).short)
+          ∙ omega (
+            arith,
+            length-drop (length (Write.table (completed P))) buffer,
+            ap length z ∙ blank-length,
+            (completed-holds s P d).short,
+          )
 
     pub tells-impossible : {why x : Why.Refusal} → j ≡ answer.Refused why → refusal_of x ≡ impossible (refusal_of why)
         → InfersAll s places transfers words buffer (written.Refused x) buffer'

@@ -110,7 +110,8 @@ module _ (s places : List ℕ) (f : ℕ) {d : List ℕ} {k : ℕ} where
     blocks-first = things-first Write.block (filled_by words)
 
     module _ {d' : List ℕ} {m i : ℕ} (t : BlocksLeft s places f words d k d' m i) where
-      pub blocks-next : {r : ℕ} {d'' : List ℕ} → PutsIn s places f (block_of words i) d' m r d'' → BlocksLeft s places f words d k d'' r (i + 1)
+      pub blocks-next : {r : ℕ} {d'' : List ℕ} → PutsIn s places f (block_of words i) d' m r d''
+          → BlocksLeft s places f words d k d'' r (i + 1)
       blocks-next p = things-next Write.block (filled_by words) t p
 
       pub blocks_end : 32 ≤ i → PutsIn s places f (blocks_of words) d k m d'

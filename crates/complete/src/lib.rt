@@ -1,5 +1,7 @@
 // The completion of a table of version 2: what it leaves out is inferred in lent words, function by function, and the table is written
 // as version 1 into a buffer, which the check is put to. Each writer puts its bytes at a place and gives the place behind them.
+#![tactic(auto)]
+
 ghost use Rattle.std.specs.Prelude.{◌≡◌, ◌-◌, ◌≤◌, length, take};
 ghost use Rattle.model.specs.Calls.{check};
 ghost use Rattle.answers.specs.Answers.{answer_of, refusal_of};

@@ -1,5 +1,7 @@
 // The depth of a table: the greatest number of frames that a chain of calls can need. The longest chain from a function is worked out
 // from those of its callees, with the number of functions left as the falling measure; each function is worked out once.
+#![tactic(auto)]
+
 ghost use Rattle.std.specs.Prelude.{◌≡◌, max, cond, leb, get_or, set};
 ghost use Rattle.std.proofs.Math.Option.{none, some};
 ghost use Rattle.chains.specs.Depth as Model;

@@ -29,7 +29,7 @@ use Rattle.inference.specs.Means.{Means, Says, Written}
 use Rattle.host.specs.Macros.{is_given, value, number, block, function}
 use Rattle.host.specs.Exports.{done, as_number}
 use Rattle.host.specs.CallContracts.{Read, Complete}
-use Rattle.host.specs.Laws.{answer_in, OfTable, OfCompletion, CompleteTells}
+use Rattle.host.specs.Laws.{answer_in, OfCompletion, CompleteTells}
 use Rattle.host.proofs.Codes.{Bare, Fits, given_is, given-in, refused-in}
 use Rattle.host.proofs.Tables.{table_fits, table-told}
 use Rattle.host.proofs.Macros.{read-given, read-refused}

@@ -26,7 +26,7 @@ use Rattle.model.proofs.Kept.{OnSome}
 use Rattle.model.proofs.Numbers as Numbers
 use Rattle.model.proofs.Numbers.{Can, Any, read-can, check-can, start-can, choose-can, schedule-can, which-can, values-can}
 use Rattle.model.proofs.Numbers.{read-heading, start-begins, start-leaves, choose-leaves}
-use Rattle.answers.specs.Coded.{given, code_of}
+use Rattle.answers.specs.Coded.{code_of}
 use Rattle.chains.specs.Depth.{depth}
 use Rattle.chains.specs.Means.{Accepted}
 use Rattle.chains.proofs.Means.{depth-means}
@@ -37,7 +37,7 @@ use Rattle.inference.proofs.Theorem.{completion-means}
 use Rattle.overflows.proofs.Theorem.{naming}
 use Rattle.first.specs.Means.{Steps, Right}
 use Rattle.first.proofs.Means.{right}
-use Rattle.host.specs.Macros.{is_given, value, number, block, function, step, no_thread}
+use Rattle.host.specs.Macros.{is_given, value, number, function, step, no_thread}
 use Rattle.host.specs.Exports.{done, as_number, stepper_of, counted, over, written}
 use Rattle.host.specs.CallContracts.{Read, Check, Depth, Tidy, Start, Choose, Schedule, Which, Values}
 use Rattle.host.specs.Laws as Laws

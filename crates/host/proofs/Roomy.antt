@@ -21,7 +21,7 @@ use Rattle.chains.specs.Roomy as Chains
 use Rattle.chains.specs.Roomy.{Few}
 use Rattle.chains.proofs.Means.{depth-means}
 use Rattle.chains.proofs.Theorem.{now-few, now-room, now-stands, waiting-steps}
-use Rattle.host.specs.Macros.{value, number, pool_words, step, no_thread}
+use Rattle.host.specs.Macros.{value, pool_words, step, no_thread}
 use Rattle.host.specs.CallContracts.{Choose, Which}
 use Rattle.host.specs.Laws.{refusal_in}
 use Rattle.host.specs.Sessions.{Call, Made, Session, Returned, CanStep, Overflows}

@@ -4,7 +4,7 @@ use mathlib.Core.Path.{◌≡◌, refl, sym, ◌∙◌, ap, subst}
 use mathlib.Core.Logic.{inl, inr}
 use mathlib.Core.Bool.{Bool, true, false}
 use mathlib.Core.Option.{Option, none, some}
-use mathlib.Core.List.{List, ◌++◌}
+use mathlib.Core.List.{List}
 use native.Mathlib.Omega.{arith}
 use lib.Dec.{leb, lit≤}
 use lib.IntN.{ℤ}
@@ -19,7 +19,7 @@ use Rattle.model.proofs.Facts.{true-false, refused-given, leb-true, leb-false, p
 use Rattle.model.proofs.Kept.{OnSome}
 use Rattle.model.proofs.Numbers as Numbers
 use Rattle.model.proofs.Numbers.{Can, Any, lent-can, which-can}
-use Rattle.answers.specs.Coded.{given, code_of}
+use Rattle.answers.specs.Coded.{code_of}
 use Rattle.first.proofs.Means.{which-refused}
 use Rattle.views.specs.Lines.{Viewer}
 use Rattle.views.specs.Listing.{listing, listed, list, operator, customer}
@@ -27,14 +27,14 @@ use Rattle.views.specs.Means.{erased}
 use Rattle.views.proofs.Private.{private}
 use Rattle.views.proofs.Erased.{erases}
 use Rattle.views.proofs.Short.{short}
-use Rattle.host.specs.Macros.{is_given, value, number, listing_bytes}
+use Rattle.host.specs.Macros.{is_given, value, listing_bytes}
 use Rattle.host.specs.Exports.{as_number, stepper_of}
 use Rattle.host.specs.CallContracts.{Which, Listing, Operator}
-use Rattle.host.specs.Laws.{answer_in, OfPool, ListingTells}
-use Rattle.host.specs.Views.{Private, Less, Erases}
-use Rattle.host.proofs.Codes.{Bare, Fits, given_is, refused-in}
+use Rattle.host.specs.Laws.{answer_in, ListingTells}
+use Rattle.host.specs.Views.{Private, Erases}
+use Rattle.host.proofs.Codes.{Bare, given_is, refused-in}
 use Rattle.host.proofs.Refusals.{lent_fits, lent-told}
-use Rattle.host.proofs.Macros.{read-given, read-refused, given-read}
+use Rattle.host.proofs.Macros.{read-refused, given-read}
 use Rattle.host.proofs.Written.{Put, was-put, was-refused}
 
 -- what is lent, and what mezdaulk_which answers of it

@@ -136,7 +136,8 @@ module _ (s : List ℕ) (at : ℕ) {kind : ℕ} (k : kind ≡ byte_at s at) (n :
   pub under_stays : kind < 4 → Turns n (under_at s at) n
   under_stays l = record { is = λ ρ m. m ∙ ap some (sym (under_same s at k ρ l)) }
 
-  pub under-opens : {j x : ℕ} {r : Nesting} → kind ≡ 4 → j ≡ past at 2 → x ≡ byte_at s j → Turns n (opened_by x) r → Turns n (under_at s at) r
+  pub under-opens : {j x : ℕ} {r : Nesting} → kind ≡ 4 → j ≡ past at 2 → x ≡ byte_at s j → Turns n (opened_by x) r
+      → Turns n (under_at s at) r
   under-opens z e d t = turns_as t (λ ρ. under-opened s at k ρ z e ∙ rw d)
 
   pub under-closes : {r : Nesting} → (kind ≡ 4 → ⊥) → 4 ≤ kind → Turns n closed r → Turns n (under_at s at) r

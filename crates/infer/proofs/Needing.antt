@@ -1,11 +1,11 @@
 -- What the walks that ask what is needed find, from what their parts find; and that they find what the definitions say of temporaries.
 use Prim.Native.Nat.{ℕ, ◌-◌, ◌≤◌, ◌<◌}
 use mathlib.Core.Path.{◌≡◌, refl, sym, ◌∙◌, ap}
-use mathlib.Core.Bool.{Bool, true, false}
+use mathlib.Core.Bool.{Bool, true, false, cond}
 use mathlib.Core.List.{List, [], ◌∷◌, ◌++◌}
 use lib.ListN.{get_or}
 use Rattle.model.specs.Lists.{Each}
-use Rattle.model.specs.Sets.{with_all}
+use Rattle.model.specs.Sets.{has, with, with_all}
 use Rattle.model.specs.Syntax.{Statement, Transfer, uses, uses_atom, targets}
 use Rattle.model.specs.Limits.{Temporaries, InStatement, InTransfer}
 use Rattle.code.specs.Bytes.{byte_at, past, operands}
@@ -25,22 +25,25 @@ use Rattle.infer.proofs.ByKind.{uses-call, uses-return, uses-none}
 pub bindings : (Γ : ℕ) (x̄ : List ℕ) → Temporaries x̄ → binding_all Γ x̄ ≡ with_all Γ x̄
 unfolding binding_all with_all
 bindings Γ [] h = refl
-bindings Γ (x ∷ x̄) (h, hs) = rw (binding-with Γ x h) (bindings _ x̄ hs)
+bindings Γ (x ∷ x̄) (h, hs) = rw (binding-with Γ x h) (bindings (with Γ x) x̄ hs)
 
 pub lackings : (Γ Δ : ℕ) (x̄ : List ℕ) → Temporaries x̄ → lacking_in Γ Δ x̄ ≡ lacking Γ Δ x̄
 unfolding lacking_in lacking
 lackings Γ Δ [] h = refl
-lackings Γ Δ (x ∷ x̄) (h, hs) = rw (holds_has Γ x h, binding-with Δ x h) (lackings Γ _ x̄ hs)
+lackings Γ Δ (x ∷ x̄) (h, hs) = rw (holds_has Γ x h, binding-with Δ x h) (lackings Γ (cond (has Γ x) Δ (with Δ x)) x̄ hs)
 
 pub neededs : (Γ Δ : ℕ) (C : List Statement) → Each InStatement C → needed_in Γ Δ C ≡ needing Γ Δ C
 unfolding needed_in needing
 neededs Γ Δ [] h = refl
-neededs Γ Δ (S ∷ C) (h, hs) = rw (binding-with Γ S.target h.target, lackings Γ Δ (uses S.source) h.source) (neededs _ _ C hs)
+neededs Γ Δ (S ∷ C) (h, hs) =
+    rw (binding-with Γ S.target h.target, lackings Γ Δ (uses S.source) h.source)
+    (neededs (with Γ S.target) (lacking Γ Δ (uses S.source)) C hs)
 
-pub joineds : (Γ Δ : ℕ) (scope : ℕ → ℕ) (Γs b̄ : List ℕ) → ((b : ℕ) → scope b ≡ get_or Γs b 0) → joined_in Γ Δ scope b̄ ≡ joined_all Γ Δ Γs b̄
+pub joineds : (Γ Δ : ℕ) (scope : ℕ → ℕ) (Γs b̄ : List ℕ) → ((b : ℕ) → scope b ≡ get_or Γs b 0)
+    → joined_in Γ Δ scope b̄ ≡ joined_all Γ Δ Γs b̄
 unfolding joined_in joined_all
 joineds Γ Δ scope Γs [] e = refl
-joineds Γ Δ scope Γs (b ∷ b̄) e = rw (e b) (joineds Γ _ scope Γs b̄ e)
+joineds Γ Δ scope Γs (b ∷ b̄) e = rw (e b) (joineds Γ (joined Γ Δ (get_or Γs b 0)) scope Γs b̄ e)
 
 used-temporaries : (T : Transfer) → InTransfer T → Temporaries (used_by T)
 unfolding InTransfer used_by
@@ -55,7 +58,7 @@ used-temporaries (Transfer.spoin b c) h = tt
 bound-same : (Γ Δ Θ : ℕ) (C : List Statement) → (needing Γ Δ C).bound ≡ (needing Γ Θ C).bound
 unfolding needing
 bound-same Γ Δ Θ [] = refl
-bound-same Γ Δ Θ (S ∷ C) = bound-same _ _ _ C
+bound-same Γ Δ Θ (S ∷ C) = bound-same (with Γ S.target) (lacking Γ Δ (uses S.source)) (lacking Γ Θ (uses S.source)) C
 
 -- what a block binds and needs
 module _ (s : List ℕ) (at Δ : ℕ) (p : Temporaries (arguments_at s at)) (c : Each InStatement (code_at s (list_end s at))) where
@@ -100,7 +103,7 @@ module _ (Γ Δ x : ℕ) {b : Bool} (e : b ≡ holds Γ x) where
 lack-append : (Γ Δ : ℕ) (xs ys : List ℕ) → lacking_in Γ Δ (xs ++ ys) ≡ lacking_in Γ (lacking_in Γ Δ xs) ys
 unfolding lacking_in
 lack-append Γ Δ [] ys = refl
-lack-append Γ Δ (x ∷ xs) ys = lack-append Γ _ xs ys
+lack-append Γ Δ (x ∷ xs) ys = lack-append Γ (cond (holds Γ x) Δ (binding Δ x)) xs ys
 
 lack-first : (Γ Δ x : ℕ) (xs : List ℕ) → lacking_in Γ Δ (x ∷ xs) ≡ lacking_in Γ (lacking_in Γ Δ (x ∷ [])) xs
 unfolding lacking_in
@@ -125,7 +128,8 @@ module _ (s : List ℕ) (at Γ Δ : ℕ) {b : ℕ} (e : b ≡ byte_at s at) wher
       → r ≡ lacking_in Γ Δ (uses_atom (atom_at s at))
   atom-temporary h q y d = rw (temporary-uses s at (λ w. h (e ∙ w)), ← q, ← y) d
 
-module _ (s : List ℕ) (at Γ Δ : ℕ) {f m b o : ℕ} (q : f ≡ past at 1) (a : m ≡ lacking_in Γ Δ (uses_atom (atom_at s f))) (e : b ≡ byte_at s at)
+module _ (s : List ℕ) (at Γ Δ : ℕ) {f m b o : ℕ} (q : f ≡ past at 1) (a : m ≡ lacking_in Γ Δ (uses_atom (atom_at s f)))
+    (e : b ≡ byte_at s at)
     (d : o ≡ operands b) where
   pub expression-one : (o ≡ 2 → ⊥) → m ≡ lacking_in Γ Δ (uses (expression_at s at))
   unfolding expression_at
@@ -179,13 +183,15 @@ code-walked s at Γ Δ q e d z = rw (z, d, q, e)
 
 -- what a transfer uses itself
 module _ (s : List ℕ) (at Γ Δ : ℕ) {first kind : ℕ} (f : first ≡ past at 1) (k : kind ≡ byte_at s at) {r : ℕ} where
-  pub used-goto : {x : ℕ} → kind ≡ 0 → x ≡ past first 1 → r ≡ lacking_in Γ Δ (arguments_at s x) → r ≡ lacking_in Γ Δ (used_by (transfer_at s at))
+  pub used-goto : {x : ℕ} → kind ≡ 0 → x ≡ past first 1 → r ≡ lacking_in Γ Δ (arguments_at s x)
+      → r ≡ lacking_in Γ Δ (used_by (transfer_at s at))
   used-goto z e d = rw (uses-goto s at f k z e) d
 
   pub used-if : kind ≡ 1 → r ≡ lacking_in Γ Δ (uses (expression_at s first)) → r ≡ lacking_in Γ Δ (used_by (transfer_at s at))
   used-if z d = rw (uses-if s at f k z) d
 
-  pub used-call : {x : ℕ} → kind ≡ 2 → x ≡ past first 1 → r ≡ lacking_in Γ Δ (arguments_at s x) → r ≡ lacking_in Γ Δ (used_by (transfer_at s at))
+  pub used-call : {x : ℕ} → kind ≡ 2 → x ≡ past first 1 → r ≡ lacking_in Γ Δ (arguments_at s x)
+      → r ≡ lacking_in Γ Δ (used_by (transfer_at s at))
   used-call z e d = rw (uses-call s at f k z e) d
 
   pub used-return : kind ≡ 3 → r ≡ lacking_in Γ Δ (arguments_at s first) → r ≡ lacking_in Γ Δ (used_by (transfer_at s at))

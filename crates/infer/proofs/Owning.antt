@@ -150,7 +150,8 @@ module _ (s places : List ℕ) (f b : ℕ) {r : Place} (find : FindsBlock places
             let x : Δ ≡ get_or Γs b 0 = y ∙ whole-scope h b in
             let o : Θ ≡ nesting_needs F (get_or Γs b 0) (nesting_of (get_or ms b none)) = needs.is P F w ∙ rw (x, m) in
             rw (z, o)
-            (own_of s p B (each_at InBlock F.blocks b (limited w).blocks g) (there e w g) F (nesting_of (get_or ms b none)) (get_or Γs b 0));
+            (own_of s p B (each_at InBlock F.blocks b (limited w).blocks g) (there e w g) F (nesting_of (get_or ms b none))
+            (get_or Γs b 0));
       }
 
 -- a block that gets what it needs itself, and keeps what it binds

@@ -1,6 +1,8 @@
 // What is reached, nestings and least scopes of a function's blocks, inferred in lent words: nestings go from the entry along the
 // transfers, in rounds over the blocks until a round changes nothing; each scope gets what its block needs itself, and what a scope
 // needs goes back along the transfers, in rounds again.
+#![tactic(auto)]
+
 ghost use Rattle.std.specs.Prelude.{◌≡◌, ◌%◌, ◌||◌, [], ◌∷◌, get_or, set};
 ghost use Rattle.code.specs.Code.{run, arguments_at, atom_at, expression_at, statements_at, statements_end, transfer_at};
 ghost use Rattle.model.specs.Sets.{below};
@@ -23,7 +25,7 @@ pub enum Lowest {
 }
 
 // A nesting: one more than the number of its names, and the names, the outermost in the lowest digit to base 256.
-#[derive(Drop)]
+#[derive(Clone, Copy)]
 struct Nesting {
     level: u16,
     names: u32,

@@ -1,5 +1,7 @@
 // What a tidy table keeps: the blocks, spawn calls and functions, as lists of old numbers in their new order. A list is an array that
 // has the numbers from its start on and, behind room for them, the new number of each; how many there are is handed on beside it.
+#![tactic(auto)]
+
 ghost use Rattle.std.specs.Prelude.{◌≡◌, [], ◌∷◌, ◌+◌, min, set};
 ghost use Rattle.code.specs.Code.{run, transfer_at};
 ghost use Rattle.model.specs.Syntax.{targets, sporked_by};

@@ -5,7 +5,7 @@ use mathlib.Core.Bool.{Bool, true, false}
 use mathlib.Core.Option.{Option, none, some}
 use mathlib.Core.List.{List, [], ◌∷◌}
 use Rattle.model.specs.Lists.{Each}
-use Rattle.model.specs.Tests.{Tests, ◌then◌, or, failed, of_given, of_each, fault}
+use Rattle.model.specs.Tests.{Tests, or, failed, of_given, of_each, fault}
 use Rattle.model.proofs.Facts.{none-some, some-injective, each_map}
 
 abbrev pub Holds : Tests → Type 0

@@ -20,7 +20,7 @@ use Rattle.model.specs.Values.{same}
 use Rattle.model.specs.Syntax.{Statement, Transfer, Head, Block, Function, Program}
 use Rattle.model.specs.Read as Read
 use Rattle.model.specs.Read.{Parsed, Parser, Version, ◌>>=◌, byte, many, counted, pick, read}
-use Rattle.model.specs.Tests.{Tests, ◌then◌, or, of_given, of_each, fault}
+use Rattle.model.specs.Tests.{Tests, or, of_given, of_each, fault}
 use Rattle.model.specs.WellFormed.{Env, env}
 use Rattle.model.specs.Check as Check
 use Rattle.model.specs.Check.{Placed, nowhere, at, first_fault, judge}

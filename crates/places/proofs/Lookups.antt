@@ -6,7 +6,7 @@ use mathlib.Core.Option.{Option, none, some}
 use mathlib.Core.List.{List}
 use native.Mathlib.Omega.{arith}
 use lib.Dec.{eqb}
-use lib.ListN.{length, get_or, get_elem?}
+use lib.ListN.{get_or, get_elem?}
 use Rattle.model.specs.Syntax.{Head, Block, Function, Program}
 use Rattle.model.specs.Read.{Parser, block_by, function_by, spawn_call}
 use Rattle.model.specs.Pool.{block_in}
@@ -16,7 +16,7 @@ use Rattle.places.specs.declared.Place.{Place}
 use Rattle.places.specs.declared.Place.TheVariants.{Nowhere}
 use Rattle.places.specs.Layout.{functions, spawns, blocks, absent, function_index, block_index, spawn_index, length_index}
 use Rattle.places.specs.Marks.{length_of}
-use Rattle.places.specs.Places.{place_of, code_of, Heads, FoundCode, FindsCode, spawn_in, Entry, PlacesBy, Found, FindsFunction}
+use Rattle.places.specs.Places.{place_of, code_of, Heads, FoundCode, FindsCode, spawn_in, Entry, Found, FindsFunction}
 use Rattle.places.specs.Places.{FindsBlock, FindsSpawn}
 
 -- an entry is the place of what is there

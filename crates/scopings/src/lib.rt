@@ -1,5 +1,7 @@
 // The scoping of each block of a function in lent words, two for each block. Every function takes any words and any block: a word that
 // is not there reads as 0 and is not written.
+#![tactic(auto)]
+
 ghost use Rattle.std.specs.Prelude.{◌≡◌, ◌+◌, ◌*◌, ◌%◌, get_or, set};
 ghost use Rattle.scopings.specs.Words.{scope_in};
 ghost use Rattle.scopings.specs.Changes.{Cleared, level_in, names_in, marked, scoped};

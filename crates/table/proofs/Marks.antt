@@ -8,7 +8,7 @@ use Rattle.model.specs.Read.{Parsed, Parser, next, byte, many, spawn_call, block
 use Rattle.model.proofs.Reading.{next-ok, byte-ok}
 use Rattle.table.specs.Skips.{skip_of, byte_of, body}
 use Rattle.places.specs.Marks.{mark_function, mark_spawn, mark_block, mark_head}
-use Rattle.table.specs.Marks.{onward, marked, Along, along, block_marks_by, Many, sizes, sizes_of, function_marks_by, program_marks_by, Kept}
+use Rattle.table.specs.Marks.{onward, marked, along, block_marks_by, Many, sizes, sizes_of, function_marks_by, program_marks_by, Kept}
 use Rattle.table.specs.declared.grammar.Skip.{Skip}
 use Rattle.table.specs.declared.grammar.Found.{Found}
 use Rattle.table.specs.declared.walk.Sizes.{Sizes}

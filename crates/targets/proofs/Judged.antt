@@ -19,7 +19,8 @@ use Rattle.places.specs.declared.Place.{Place}
 use Rattle.places.specs.declared.Place.TheVariants.{At, Nowhere}
 use Rattle.places.specs.Places.{Places, FindsSpawn}
 use Rattle.code.specs.Bytes.{byte_at, past}
-use Rattle.code.specs.Code.{run, head_in, count_at, arguments_at, list_end, expression_at, expression_end, spawn_at, transfer_of, transfer_at}
+use Rattle.code.specs.Code.{run, head_in, count_at, arguments_at, list_end, expression_at, expression_end, spawn_at, transfer_of}
+use Rattle.code.specs.Code.{transfer_at}
 use Rattle.code.specs.Code.{goto_at, if_at, call_at, return_at, spork_at, spoin_at}
 use Rattle.code.specs.declared.Opening.{Opening}
 use Rattle.code.proofs.Ends.{arguments-length}

@@ -1,4 +1,6 @@
 // Transfers over the places: a target is looked up by number, read once into a small struct, and tested by plain values.
+#![tactic(auto)]
+
 ghost use Rattle.code.specs.Code.{goto_at, if_at, call_at, return_at, spork_at, spoin_at, transfer_at};
 ghost use Rattle.targets.specs.Targets.{Targets, Callees, Spawns, Keeps, Adds, One, Both, Grown, Judges};
 

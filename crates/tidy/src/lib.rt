@@ -1,5 +1,7 @@
 // The tidy table: an accepted table written afresh under the numbers that `kept` gives. Each function puts its bytes at a place of the
 // output and gives the place behind them; what does not fit is counted and not written, so that the same functions tell the length.
+#![tactic(auto)]
+
 ghost use Rattle.std.specs.Prelude.{map};
 ghost use Rattle.answers.specs.Answers.{Writes};
 ghost use Rattle.code.specs.Code.{run};

@@ -1,5 +1,7 @@
 // Where the transfer of each block of a table stands: an array of offsets, found once, in which transfers are looked up by number
 // without a walk over the statements before them.
+#![tactic(auto)]
+
 ghost use Rattle.std.specs.Prelude.{◌≡◌};
 ghost use Rattle.code.specs.Bytes.{byte_at, past};
 ghost use Rattle.code.specs.Code.{statements_end};

@@ -1,5 +1,7 @@
 // The check of a table over its places: phase by phase in the order of the definition. Blocks and functions are taken by
 // number, so those that nothing names are judged too.
+#![tactic(auto)]
+
 ghost use Rattle.std.specs.Prelude.{◌≡◌};
 ghost use Rattle.model.specs.Calls as Calls;
 ghost use Rattle.answers.specs.Answers.{answer_of};

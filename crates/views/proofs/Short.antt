@@ -9,14 +9,13 @@ use Rattle.model.specs.Lists.{Each}
 use Rattle.model.specs.Syntax.{Program}
 use Rattle.model.specs.Limits.{Limits}
 use Rattle.model.specs.Pool.{Thread, Pool, most_threads, is_pool}
-use Rattle.model.specs.Calls.{Lent}
 use Rattle.model.proofs.Facts.{each_left, each_right, each_map}
 use Rattle.model.proofs.Guarantees.{read-limits}
 use Rattle.model.proofs.Valid.{pool-facts}
 use Rattle.model.proofs.Words.{lent-given}
 use Rattle.views.specs.Lines.{Viewer, line}
 use Rattle.views.specs.Listing.{Tree, Forest, thread_lines, child_lines, listing}
-use Rattle.views.specs.Means.{Numbered, numbered, preorder, preorders, Lists, listing_bytes, Short}
+use Rattle.views.specs.Means.{Numbered, numbered, preorder, preorders, listing_bytes, Short}
 use Rattle.views.proofs.Trees.{one-tree}
 use Rattle.views.proofs.Lengths.{most, line-most}
 

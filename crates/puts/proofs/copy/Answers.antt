@@ -1,5 +1,5 @@
 -- `puts::copy`: the loop has put the first i bytes so far.
-use Prim.Native.Nat.{◌+◌, ◌-◌}
+use Prim.Native.Nat.{◌+◌}
 use native.Mathlib.Omega.{arith}
 use mathlib.Core.Path.{refl}
 use lib.ListN.{get_or, length-set}

@@ -1,5 +1,4 @@
 -- `puts::one_by_one`: the loop has put the first i bytes so far.
-use Prim.Native.Nat.{◌-◌}
 use native.Mathlib.Omega.{arith}
 use mathlib.Core.Path.{refl}
 use Rattle.puts.proofs.Laws.{none}

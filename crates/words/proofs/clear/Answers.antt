@@ -1,5 +1,4 @@
 -- `words::clear`: the loop has cleared i words so far.
-use Prim.Native.Nat.{◌-◌}
 use native.Mathlib.Omega.{arith}
 use mathlib.Core.Path.{sym}
 use lib.IntN.{pos}

@@ -1,5 +1,4 @@
 -- `words::copy`: the loop has stored the first i words so far.
-use Prim.Native.Nat.{◌-◌}
 use native.Mathlib.Omega.{arith}
 use borrow.Author.Rules.{sfits_of}
 use mir.Facts.{to_z-of_z}

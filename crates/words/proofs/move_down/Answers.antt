@@ -1,5 +1,4 @@
 -- `words::move_down`: the loop has moved the first i words so far.
-use Prim.Native.Nat.{◌-◌}
 use native.Mathlib.Omega.{arith}
 use mathlib.Core.Path.{◌∙◌}
 use borrow.Author.Rules.{sfits_of}

@@ -2,7 +2,6 @@
 use mathlib.Core.Path.{refl, ap, ◌∙◌}
 use native.Mathlib.Omega.{arith}
 use borrow.Author.Rules.{rules}
-use Rattle.table.specs.Versions.{head_of}
 use Rattle.table.specs.Marks.{Kept, Along}
 use Rattle.table.proofs.Laws.{many-goes, many-stops, many-ends}
 use Rattle.table.proofs.Marks.{marks-go, marks-end, block-else, block-then, block-kept, kept-bad}

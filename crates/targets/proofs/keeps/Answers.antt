@@ -1,0 +1,9 @@
+-- `targets::keeps` meets its contract.
+use Rattle.targets.proofs.Nestings.{keeps_same, keeps-differ}
+use Rattle.targets.proofs.keeps.Goals as goal
+
+pub returns-then-h-n : goal.returns-then-h-n
+returns-then-h-n c = search keeps_same
+
+pub returns-else-h-n : goal.returns-else-h-n
+returns-else-h-n c = search keeps-differ
