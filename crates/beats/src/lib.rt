@@ -1,5 +1,7 @@
 // A beat: a step of a thread, what it earns, and the promotions that the thread's tokens pay; and a run of beats. Steps and promotions
 // are the machine's own choices (`steps`).
+#![tactic(auto)]
+
 ghost use Rattle.std.specs.Prelude.{◌≡◌, ◌-◌, ◌≤◌, length};
 ghost use Rattle.model.specs.Pool.{most_tokens, most_threads, pool_words};
 ghost use Rattle.tokens.specs.Beats as Beats;
@@ -24,7 +26,7 @@ impl Pace {
 }
 
 // A thread's purse.
-#[derive(Drop)]
+#[derive(Clone, Copy, Drop)]
 struct Purse {
     pub work: u32,
     pub tokens: u32,

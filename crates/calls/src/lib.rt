@@ -1,5 +1,7 @@
 // The public calls on a table and a pool: each is lent what it needs (`lend`) and asks the inner machine. Every call takes any
 // bytes, words and numbers; a refusal changes no word.
+#![tactic(auto)]
+
 ghost use Rattle.std.specs.Prelude.{◌≡◌, pos, replicate};
 ghost use Rattle.model.specs.Calls as Calls;
 ghost use Rattle.answers.specs.Answers.{answer_of};

@@ -48,7 +48,8 @@ module _ (s : List ℕ) (p₀ n : ℕ) (v̄ ws₀ : List ℤ) (k : ℕ) where
     where
       go : (m : Frame) → Bound m ws p i → Bound m ws' q (i + 1)
       go m u =
-          let w : get_or (take n v̄) i (pos 0) ≡ to_z w32 (of_z w32 (get_or v̄ i (pos 0))) = get_or-take n v̄ i (pos 0) l ∙ sym (to_z-of_z f) in
+          let w : get_or (take n v̄) i (pos 0) ≡ to_z w32 (of_z w32 (get_or v̄ i (pos 0))) =
+          get_or-take n v̄ i (pos 0) l ∙ sym (to_z-of_z f) in
           let o : FrameHeld ws k u.frame = became-held h.room u.became in
           let y : x < temporaries = omega (arith, binding-next s p₀ n (take n v̄) m u.frame p i u.binding l) in
           let v : ℤ = get_or (take n v̄) i (pos 0) in

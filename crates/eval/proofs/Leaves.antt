@@ -145,7 +145,8 @@ module _ (s : List ℕ) (at : ℕ) (k : Pool.Frame) where
     eval-unbound h = sym (ap evaluated_as (eval-first k (byte_at s at) _ _ (first-is (none_is m _ e₃ h))))
 
     module _ {o : ℕ} {v : ℤ} (h : m ≡ operand.Value v) (e₄ : o ≡ operands kind) where
-      pub eval-unary : (w : ℤ) (r : Evaluated) → SFits w32 v → (o ≡ 2 → ⊥) → r ≡ evaluated_as (some (applied kind (to_z w32 (of_z w32 v)) w))
+      pub eval-unary : (w : ℤ) (r : Evaluated) → SFits w32 v → (o ≡ 2 → ⊥)
+          → r ≡ evaluated_as (some (applied kind (to_z w32 (of_z w32 v)) w))
           → r ≡ evaluated_as (eval k (expression_at s at))
       unfolding expression_at
       eval-unary w r i d e₅ =
@@ -175,5 +176,6 @@ module _ (s : List ℕ) (at : ℕ) (k : Pool.Frame) where
             let z = first-is (value-is m _ e₃ h) in
             let y = second_is (value-is n _ e₆ h') in
             let q : operands (byte_at s at) ≡ 2 = ap operands (sym e₁) ∙ sym e₄ ∙ d in
-            let u : applied kind (to_z w32 (of_z w32 v)) (to_z w32 (of_z w32 w)) ≡ applied (byte_at s at) v w = rw (to_z-of_z i, to_z-of_z j, e₁) in
+            let u : applied kind (to_z w32 (of_z w32 v)) (to_z w32 (of_z w32 w)) ≡ applied (byte_at s at) v w =
+            rw (to_z-of_z i, to_z-of_z j, e₁) in
             e₇ ∙ ap (λ (x : Worked). evaluated_as (some x)) u ∙ sym (ap evaluated_as (eval-two k (byte_at s at) _ _ v w q z y))

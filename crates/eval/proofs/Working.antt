@@ -80,7 +80,8 @@ module _ {z : ℤ} (f : SFits w64 z) where
       go (pos n) e = rw (le-ltb n (2 ^ 31) (ltb-false n 2147483648 e))
       go (negsuc n) e = absurd (true≢false e)
 
-  module _ (low : lt_z (to_z w64 (of_z w64 z)) (negsuc 2147483647) ≡ false) (high : lt_z (to_z w64 (of_z w64 z)) (pos 2147483648) ≡ true) where
+  module _ (low : lt_z (to_z w64 (of_z w64 z)) (negsuc 2147483647) ≡ false)
+      (high : lt_z (to_z w64 (of_z w64 z)) (pos 2147483648) ≡ true) where
     small : mag z < 2 ^ 31
     small = go z (rw (to_z-of_z f) at low) (rw (to_z-of_z f) at high)
       where
@@ -108,7 +109,8 @@ module _ (kind : ℕ) {m : ℤ} (n : ℤ) (f : SFits w32 m) where
   unfolding applied evaluated_as
   apply-atom e = rw (e, to_z-of_z f)
 
-  pub apply-minus : (r : Evaluated) → kind ≡ 1 → r ≡ comes (Values.worked (to_z w64 (of_z w64 (pos 0 -ℤ in-64 m)))) → r ≡ comes (applied kind m n)
+  pub apply-minus : (r : Evaluated) → kind ≡ 1 → r ≡ comes (Values.worked (to_z w64 (of_z w64 (pos 0 -ℤ in-64 m))))
+      → r ≡ comes (applied kind m n)
   unfolding applied Values.minus
   apply-minus r e d = d ∙ ap (λ (z : ℤ). comes (Values.worked z)) (to_z-of_z (negated_fits f) ∙ negated-is f) ∙ rw e
 

@@ -1,4 +1,6 @@
 // What atoms, expressions and argument lists of a table come to in the frame at a place of the pool's words, and binding there.
+#![tactic(auto)]
+
 ghost use Rattle.std.specs.Prelude.{◌≡◌, ◌+◌, ◌≤◌, length};
 ghost use Rattle.std.proofs.Math.Option.{some};
 ghost use Rattle.model.specs.Values as Model;

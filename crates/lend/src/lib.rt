@@ -1,6 +1,8 @@
 // What every call on a pool is lent: the table and as many words as a pool has (1 to 3, 12), and the table and a pool of it (1 to
 // 3, 12, 13). The table alone (1 to 3) is lent by `table::read`. The places, handed in with none, are left as the table's reading
 // leaves them; the words are only read.
+#![tactic(auto)]
+
 ghost use Rattle.lend.specs.Lent.{LendsWords, LendsPool};
 
 use answers::{Answer, No, Refusal};

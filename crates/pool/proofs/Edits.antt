@@ -7,7 +7,8 @@ use lib.IntN.{ℤ, pos}
 use lib.ListN.{length, take, drop, set, length-append, length-set, length-reverse, length-replicate, replicate-append-replicate}
 use lib.Seq.{take_all, set-append_left}
 use Rattle.model.specs.Lists.{Each, concat}
-use Rattle.model.specs.Pool.{Frame, Thread, Pool, most_frames, frame_words, frame_count_at, frames_at, thread_words, thread_start, start_of, frames}
+use Rattle.model.specs.Pool.{Frame, Thread, Pool, most_frames, frame_words, frame_count_at, frames_at, thread_words, thread_start}
+use Rattle.model.specs.Pool.{start_of, frames}
 use Rattle.model.specs.Pool.{restacked, begin, words_of_frame, thread_head, words_of_thread, words_of}
 use Rattle.model.specs.Valid.{FrameFits, ThreadFits, PoolFits}
 use Rattle.model.proofs.Facts.{each_right}

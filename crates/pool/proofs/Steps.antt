@@ -8,8 +8,10 @@ use lib.IntN.{ℤ, pos}
 use lib.ListN.{length, set, get_or, length-append, length-set, length-replicate}
 use mir.Syntax.{w32}
 use mir.Val.{of_z}
-use Rattle.model.specs.Pool.{Purse, Thread, Pool, most_frames, most_threads, most_work, most_tokens, frame_words, frame_count_at, work_at, tokens_at}
-use Rattle.model.specs.Pool.{thread_words, thread_count_at, pool_words, thread_start, start_of, frames, born, restacked, endowed, begin, started}
+use Rattle.model.specs.Pool.{Purse, Thread, Pool, most_frames, most_threads, most_work, most_tokens, frame_words, frame_count_at}
+use Rattle.model.specs.Pool.{work_at, tokens_at}
+use Rattle.model.specs.Pool.{thread_words, thread_count_at, pool_words, thread_start, start_of, frames, born, restacked, endowed}
+use Rattle.model.specs.Pool.{begin, started}
 use Rattle.model.specs.Pool.{thread_head, words_of_thread, words_of}
 use Rattle.model.specs.Valid.{ThreadFits}
 use Rattle.model.proofs.Words.{thread-length, thread-count, thread-work, thread-tokens, empty-fits, born-fits, born-words, started-words}
@@ -59,7 +61,8 @@ module _ {ws : List ℤ} {i : ℕ} {a b : Pool} {t : Thread} (h : ThreadAt ws i 
 
   pub tokens-said : t.purse.tokens ≤ most_tokens → tokens_in ws i ≡ t.purse.tokens
   tokens-said l =
-      let n : bits_at ws (thread_start i + tokens_at) ≡ t.purse.tokens = ap (of_z w32) (thread-word h tokens_at (lit≤ tt) ∙ thread-tokens t) in
+      let n : bits_at ws (thread_start i + tokens_at) ≡ t.purse.tokens =
+      ap (of_z w32) (thread-word h tokens_at (lit≤ tt) ∙ thread-tokens t) in
       omega arith
 
 -- a count that was read
@@ -163,7 +166,8 @@ was-endowed ws i e d₁ d₂ at p w₀ w₁ a t b h =
     }
 
 -- the pool at the start
-pub was-started : (ws d₁ d₂ d₃ : List ℤ) (at : ℕ) → length ws ≡ pool_words → d₁ ≡ cleared ws 0 pool_words → d₂ ≡ set d₁ thread_count_at (pos 1)
+pub was-started : (ws d₁ d₂ d₃ : List ℤ) (at : ℕ) → length ws ≡ pool_words → d₁ ≡ cleared ws 0 pool_words
+    → d₂ ≡ set d₁ thread_count_at (pos 1)
     → at ≡ thread_start 0 → d₃ ≡ set d₂ (at + frame_count_at) (pos 1) → d₃ ≡ words_of started
 was-started ws d₁ d₂ d₃ at l w₀ w₁ e w₂ =
     let c : d₁ ≡ zeros pool_words =

@@ -13,7 +13,8 @@ use mir.Val.{SFits, to_z, of_z}
 use mir.Facts.{to_z-of_z}
 use Rattle.model.specs.Lists.{Each, pad}
 use Rattle.model.specs.Sets.{below, with}
-use Rattle.model.specs.Pool.{Frame, most_calls, temporaries, function_at, block_at, done_at, bound_at, opened_at, promoted_at, calls_at, values_at}
+use Rattle.model.specs.Pool.{Frame, most_calls, temporaries, function_at, block_at, done_at, bound_at, opened_at, promoted_at}
+use Rattle.model.specs.Pool.{calls_at, values_at}
 use Rattle.model.specs.Pool.{frame_words, begin, words_of_frame}
 use Rattle.model.specs.Frames.{go_to, bind, deque}
 use Rattle.model.proofs.Facts.{each_append, each_take}
@@ -239,7 +240,8 @@ module _ (ws : List ℤ) (at : ℕ) (l : at + frame_words ≤ length ws) where
       (ap (λ (m : ℕ). set (words_of_frame k) done_at (pos (m + 1))) d ∙ went_on k (k.done + 1))
 
   pub was-bound : (x Γ : ℕ) (v : ℤ) → x < temporaries → SFits w32 v → Γ ≡ bits_at ws (at + bound_at) % 65536
-      → Bound ws at x v (set (set ws (at + bound_at) (to_z w32 (bit_or Γ (1 * 2 ^ x % 65536)))) (at + values_at + x) (to_z w32 (of_z w32 v)))
+      → Bound ws at x v (set (set ws (at + bound_at) (to_z w32 (bit_or Γ (1 * 2 ^ x % 65536)))) (at + values_at + x)
+      (to_z w32 (of_z w32 v)))
   unfolding words_of_frame
   was-bound x Γ v p f e k h =
       let d : Γ ≡ k.bound = omega (arith, word_at ws at k h.words bound_at (lit≤ tt), h.small.bound) in

@@ -42,7 +42,8 @@ module _ (a : Pool) (t : Thread) where
 -- the threads behind t move up, and u stands in the gap
 pub added : {a b : Pool} {t : Thread} {d : List ℤ} {i : ℕ} → ThreadAt d i a t b → suc (length a + length b) < most_threads
     → (u : Thread) → ThreadFits u
-    → (c at to n : ℕ) → c ≡ suc (suc (length a + length b)) → at ≡ thread_start (suc i) → to ≡ at + thread_words → n ≡ thread_words * length b
+    → (c at to n : ℕ) → c ≡ suc (suc (length a + length b)) → at ≡ thread_start (suc i) → to ≡ at + thread_words
+    → n ≡ thread_words * length b
     → ThreadAt (pasted (moved (set d thread_count_at (pos c)) at to n) at (words_of_thread u)) i a t (u ∷ b)
 unfolding concat
 added {a} {b} {t} {d} {i} h few u f c at to n ec ea et en =

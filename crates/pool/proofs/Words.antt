@@ -28,7 +28,8 @@ module _ (ws : List ℤ) (at : ℕ) (k : Frame) (e : take frame_words (drop at w
   pub word_at : (j : ℕ) → j < frame_words → bits_at ws (at + j) ≡ of_z w32 (get_or (words_of_frame k) j (pos 0))
   word_at j h =
       ap (of_z w32)
-      (sym (get_or-drop at ws j (pos 0)) ∙ sym (get_or-take frame_words (drop at ws) j (pos 0) h) ∙ ap (λ (l : List ℤ). get_or l j (pos 0)) e)
+      (sym (get_or-drop at ws j (pos 0)) ∙ sym (get_or-take frame_words (drop at ws) j (pos 0) h)
+      ∙ ap (λ (l : List ℤ). get_or l j (pos 0)) e)
 
   values-at : FrameFits k → take temporaries (drop (at + values_at) ws) ≡ k.values
   unfolding frame_of

@@ -1,5 +1,7 @@
 // The pool's words, worked in place: their layout, the empty frame by value, frames where they stand, and the operations on threads
 // and frames.
+#![tactic(auto)]
+
 ghost use Rattle.std.specs.Prelude.{[], ◌≡◌, ◌+◌, ◌*◌, ◌<◌, ◌≤◌, ◌%◌, min, pos, length, get_or, set};
 ghost use Rattle.std.proofs.Math.Option.{some};
 ghost use Rattle.std.proofs.Math.ListN.{get_elem?};

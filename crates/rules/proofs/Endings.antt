@@ -16,7 +16,8 @@ use Rattle.model.specs.Pool.{Frame, block_of}
 use Rattle.model.specs.Frames as Frames
 use Rattle.model.specs.Frames.{when, look_all, eval, go_to, callee}
 use Rattle.model.specs.Rules as Rules
-use Rattle.model.specs.Rules.{by, acts, carry, assign, stmt, goto, branch, if, call, return, spork, closing, spoin, transfer, coming, act, returned}
+use Rattle.model.specs.Rules.{by, acts, carry, assign, stmt, goto, branch, if, call, return, spork, closing, spoin, transfer}
+use Rattle.model.specs.Rules.{coming, act, returned}
 use Rattle.places.specs.declared.Place.{Place}
 use Rattle.places.specs.declared.Place.TheVariants.{At, Nowhere}
 use Rattle.places.specs.Places.{FindsCode}

@@ -30,8 +30,10 @@ use Rattle.places.specs.declared.Place.{Place}
 use Rattle.places.specs.declared.Place.TheVariants.{At, Nowhere}
 use Rattle.places.specs.Places.{spawn_in, Places, FindsBlock, FindsSpawn, FindsCode}
 use Rattle.code.specs.Bytes.{byte_at, past}
-use Rattle.code.specs.Code.{most, count_at, arguments_at, list_end, expression_at, expression_end, statement_at, statements_end, head_at, head_end}
-use Rattle.code.specs.Code.{goto_at, if_at, call_at, return_at, spork_at, spoin_at, transfer_of, transfer_at, code_at, code_end, coded, block_at}
+use Rattle.code.specs.Code.{most, count_at, arguments_at, list_end, expression_at, expression_end, statement_at, statements_end}
+use Rattle.code.specs.Code.{head_at, head_end}
+use Rattle.code.specs.Code.{goto_at, if_at, call_at, return_at, spork_at, spoin_at, transfer_of, transfer_at, code_at, code_end}
+use Rattle.code.specs.Code.{coded, block_at}
 use Rattle.eval.specs.declared.Evaluated.{Evaluated}
 use Rattle.eval.specs.declared.Evaluated.TheVariants.{Value, Overflow, Unbound}
 use Rattle.eval.specs.Given.{optional, evaluated_as, filled, Looks}
@@ -131,7 +133,8 @@ module _ (s places : List ℕ) (m : Frame) (at : ℕ) (out₀ out : List ℤ) (r
 
   module _ (there : Bool) {g n : ℕ} (t : not ok ≡ false) (y : length out ≡ length out₀) (z : length out₀ ≡ most) (e₃ : g ≡ byte_at s at)
       (e₄ : n ≡ count_at s l) (k : Takes s places g n there) where
-    callee-is : (P : Program) → Places s P places → callee P (byte_at s at) (take (count_at s l) out) ≡ optional there (begin g (take n out))
+    callee-is : (P : Program) → Places s P places
+        → callee P (byte_at s at) (take (count_at s l) out) ≡ optional there (begin g (take n out))
     callee-is P p = rw (← e₃, ← e₄) (k.is P p (take n out) (passed_length s l out (y ∙ z) e₄))
 
     pub call-missing : not there ≡ true → r ≡ jam → Transfers s places m (call_at s at) out₀ r out
@@ -188,7 +191,8 @@ carried o a = Frames.◌>>=◌ o (λ w. some (carry w a))
 module _ (statement : Bool) (s places : List ℕ) (m : Frame) (x at : ℕ) (v : Evaluated) where
   -- refused by the expression alone, whatever its value would be carried on to
   valued-refused : (r : Acted) (n : ℕ) → r ≡ acting Refuse n 0 0
-      → (v ≡ evaluated_as (eval m (expression_at s at)) → (a : ℤ → Rules.Act) → acts (carried (eval m (expression_at s at)) a) ≡ Rules.Act.refuse n)
+      → (v ≡ evaluated_as (eval m (expression_at s at)) → (a : ℤ → Rules.Act)
+      → acts (carried (eval m (expression_at s at)) a) ≡ Rules.Act.refuse n)
       → Valued statement s places m x at v r
   unfolding transfer arguments_of stmt if
   valued-refused r n h q =
@@ -216,7 +220,8 @@ module _ (statement : Bool) (s places : List ℕ) (m : Frame) (x at : ℕ) (v : 
           if = λ e f. absurd (true≢false (sym b ∙ f));
         }
 
-    pub valued-if : (r : Acted) {i b j c : ℕ} → statement ≡ false → i ≡ expression_end s at → b ≡ byte_at s i → j ≡ past i 1 → c ≡ byte_at s j
+    pub valued-if : (r : Acted) {i b j c : ℕ} → statement ≡ false → i ≡ expression_end s at → b ≡ byte_at s i → j ≡ past i 1
+        → c ≡ byte_at s j
         → Branches s places m b c (to_z w32 (of_z w32 w)) r → Valued statement s places m x at v r
     unfolding transfer arguments_of if acts carry
     valued-if r {i} {b} {j} {c} f e₂ e₃ e₄ e₅ d =

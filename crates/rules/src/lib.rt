@@ -1,5 +1,7 @@
 // The ten rules: what the frame at a place of the pool's words does next. The words and the table are read in place; no word is
 // touched. Values that are passed on go into a buffer of the caller's.
+#![tactic(auto)]
+
 ghost use Rattle.std.specs.Prelude.{◌≡◌, ◌+◌, ◌≤◌, min, length};
 ghost use Rattle.model.specs.Numbers as Numbers;
 ghost use Rattle.model.specs.Pool.{frame_words};
@@ -18,7 +20,7 @@ use pool::Pool;
 // enters `block` with spawn call `number` open, or with its last call closed; it calls function `number` and waits at `block`; it
 // returns; it waits at a promoted spoin to go to block `number`. A block that is entered by a rule has its parameters at
 // `parameters`. Values that are passed on, for the parameters, to the function, to the caller, are the first `count` of the buffer.
-#[derive(Drop)]
+#[derive(Clone, Copy, Drop)]
 pub enum Does {
     Refuse,
     Bind,

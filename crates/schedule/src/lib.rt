@@ -1,4 +1,6 @@
 // A schedule: a list of choices, each a kind and a thread, up to the first refusal.
+#![tactic(auto)]
+
 ghost use Rattle.std.specs.Prelude.{◌≡◌, length};
 ghost use Rattle.model.specs.Pool.{pool_words};
 ghost use Rattle.model.specs.Calls as Calls;
@@ -11,7 +13,7 @@ use places::{Layout, Places};
 use steps::Made;
 
 #[repr(C)]
-#[derive(Drop)]
+#[derive(Clone, Copy, Drop)]
 pub struct Choice {
     pub kind: u32,
     pub thread: u32,

@@ -25,7 +25,8 @@ use Rattle.eval.proofs.Buffers.{filled_none, filled-zeros}
 use Rattle.rules.specs.declared.Acted.{Acted}
 use Rattle.rules.specs.declared.Does.{Does}
 use Rattle.rules.specs.declared.Does.TheVariants.{Refuse, Bind, Enter, Open, Close, Push, Pop, Join}
-use Rattle.rules.specs.Acts.{acting, arrived, closed, act_by, Parameters, sound_by, Is, next_of, arguments_of, returns_of, Passes, Acts, Arrives}
+use Rattle.rules.specs.Acts.{acting, arrived, closed, act_by, Parameters, sound_by, Is, next_of, arguments_of, returns_of, Passes}
+use Rattle.rules.specs.Acts.{Acts, Arrives}
 use Rattle.rules.specs.Acts.{Entering, Enters, given_by, Giving}
 use Rattle.rules.specs.declared.Ended.{Ended}
 use Rattle.rules.specs.declared.Ended.TheVariants.{Gives, Runs}

@@ -33,7 +33,8 @@ module _ {s places : List ℕ} {ws : List ℤ} {i : ℕ} {P : Program} {a : Pool
   pub newest-is : {k : ℕ} → k ≡ newest_at ws i → frame_at ws k ≡ t.newest
   newest-is e = ap (frame_at ws) e ∙ frame-at (newest-held h.thread small-frames.0)
 
-  pub frame_is : {j : ℕ} {K₁ : List Frame} {k : Frame} {K₂ : List Frame} {p : ℕ} → p ≡ start_of i j → FrameAt t j K₁ k K₂ → frame_at ws p ≡ k
+  pub frame_is : {j : ℕ} {K₁ : List Frame} {k : Frame} {K₂ : List Frame} {p : ℕ} → p ≡ start_of i j → FrameAt t j K₁ k K₂
+      → frame_at ws p ≡ k
   frame_is e x = ap (frame_at ws) e ∙ frame-at (frame-held h.thread x (small_at x))
 
   -- what the newest frame does

@@ -1,6 +1,7 @@
 -- The kinds of acts that are left where some are told apart: the last arm of a match.
 use Prim.Native.Nat.{ℕ}
 use mathlib.Core.Path.{◌≡◌, refl}
+use mathlib.Core.Logic.{◌⊎◌, inl, inr}
 use mathlib.Core.Option.{none}
 use mathlib.Core.List.{List, [], ◌∷◌}
 use lib.IntN.{ℤ}
@@ -26,3 +27,24 @@ no-child Close d out h = refl
 no-child Push d out h = absurd (miss (0 ∷ 1 ∷ 2 ∷ 3 ∷ 4 ∷ 6 ∷ 7 ∷ []) 5 tt h)
 no-child Pop d out h = refl
 no-child Join d out h = refl
+
+-- none of the others
+pub no-push : (e : Does) → (e ≡ Push → ⊥) → Among (0 ∷ 1 ∷ 2 ∷ 3 ∷ 4 ∷ 6 ∷ 7 ∷ []) e
+no-push Refuse a = inl refl
+no-push Bind a = inr (inl refl)
+no-push Enter a = inr (inr (inl refl))
+no-push Open a = inr (inr (inr (inl refl)))
+no-push Close a = inr (inr (inr (inr (inl refl))))
+no-push Push a = absurd (a refl)
+no-push Pop a = inr (inr (inr (inr (inr (inl refl)))))
+no-push Join a = inr (inr (inr (inr (inr (inr refl)))))
+
+pub no-ending : (e : Does) → (e ≡ Push → ⊥) → (e ≡ Pop → ⊥) → (e ≡ Join → ⊥) → Among (0 ∷ 1 ∷ 2 ∷ 3 ∷ 4 ∷ []) e
+no-ending Refuse a b c = inl refl
+no-ending Bind a b c = inr (inl refl)
+no-ending Enter a b c = inr (inr (inl refl))
+no-ending Open a b c = inr (inr (inr (inl refl)))
+no-ending Close a b c = inr (inr (inr (inr refl)))
+no-ending Push a b c = absurd (a refl)
+no-ending Pop a b c = absurd (b refl)
+no-ending Join a b c = absurd (c refl)

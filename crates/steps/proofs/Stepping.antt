@@ -118,7 +118,8 @@ module _ {s places : List ℕ} {ws₀ ws : List ℤ} {i n : ℕ} (h : Idle s pla
       record { found = sym z; left = h.same P p q w v ∙ ap (after_step P p ws₀) (sym z) }
 
 -- what is found in a copy
-pub copy-finds : {s places : List ℕ} {ws c : List ℤ} (d : List ℤ) (r : Stepper) (c' : List ℤ) → length ws ≡ pool_words → length d ≡ pool_words
+pub copy-finds : {s places : List ℕ} {ws c : List ℤ} (d : List ℤ) (r : Stepper) (c' : List ℤ) → length ws ≡ pool_words
+    → length d ≡ pool_words
     → c ≡ pasted d 0 (take pool_words ws) → FindsFirst s places c r c' → FindsStepper s places ws r
 copy-finds {s} {places} {ws} {c} d r c' n l e f P p q w v =
     (subst (λ (u : List ℤ). FindsFirst s places u r c') (e ∙ copied) f P p q w v).found

@@ -1,5 +1,7 @@
 // One choice, in place, of a pool that is known to be valid: what a step would do is decided first, then written. Values that are
 // passed on stand in one buffer.
+#![tactic(auto)]
+
 ghost use Rattle.std.specs.Prelude.{◌≡◌, ◌+◌, ◌<◌, ◌≤◌, length};
 ghost use Rattle.model.specs.Pool.{frame_words, most_threads, pool_words};
 ghost use Rattle.pool.specs.Edits.{threads_in};

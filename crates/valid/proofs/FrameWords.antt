@@ -13,7 +13,8 @@ use Rattle.model.specs.Lists.{all, Each, pad}
 use Rattle.model.specs.Values.{number}
 use Rattle.model.specs.Syntax.{Block, Function, Program}
 use Rattle.model.specs.Limits.{InFunction, InBlock, Limits}
-use Rattle.model.specs.Pool.{Frame, temporaries, most_calls, function_at, block_at, done_at, bound_at, opened_at, promoted_at, calls_at, values_at}
+use Rattle.model.specs.Pool.{Frame, temporaries, most_calls, function_at, block_at, done_at, bound_at, opened_at, promoted_at}
+use Rattle.model.specs.Pool.{calls_at, values_at}
 use Rattle.model.specs.Pool.{frame_words, words_of_frame, word_at, count_at, frame_of, same_words, function_of, block_in, blank}
 use Rattle.model.proofs.Facts.{true-false, and_left, and_right, both-and, each_at, at-below, below_at, leb-true, le-leb, not-true}
 use Rattle.model.proofs.Facts.{not-false}

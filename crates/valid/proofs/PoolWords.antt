@@ -10,7 +10,8 @@ use lib.ListN.{length, get_or, drop, length-map, length-drop}
 use lib.Seq.{drop-cons}
 use Rattle.model.specs.Lists.{all, Each, pad}
 use Rattle.model.specs.Syntax.{Program}
-use Rattle.model.specs.Pool.{most_threads, thread_words, thread_count_at, threads_at, pool_words, frames, words_of_thread, words_of, runs, word_at}
+use Rattle.model.specs.Pool.{most_threads, thread_words, thread_count_at, threads_at, pool_words, frames, words_of_thread}
+use Rattle.model.specs.Pool.{words_of, runs, word_at}
 use Rattle.model.specs.Pool.{count_at, thread_of, pool_of, same_words, children, trees, are_pool}
 use Rattle.model.proofs.Facts.{true-false, and_left, and_right, both-and, lt-ltb, eqb-true}
 use Rattle.model.specs.Valid.{IsThread}
@@ -113,7 +114,8 @@ module _ (P : Program) (ws : List ℤ) (l : length ws ≡ pool_words) where
       (record { each = t.same; behind = h.behind })
       in
       let c : pos n ≡ get_or ws thread_count_at (pos 0) = sym (small (get_or ws thread_count_at (pos 0)) (omega (arith, h.few))) in
-      let w : words_of (pool_of ws) ≡ ws = words_are ws l n e ∙ (λ i. c i ∷ r i) ∙ sym (drop-cons ws thread_count_at (pos 0) (omega arith)) in
+      let w : words_of (pool_of ws) ≡ ws =
+      words_are ws l n e ∙ (λ i. c i ∷ r i) ∙ sym (drop-cons ws thread_count_at (pos 0) (omega arith)) in
       let p : pool_of ws ≡ map thread_of (runs thread_words n (drop threads_at ws)) =
       ap (λ (m : ℕ). map thread_of (runs thread_words m (drop threads_at ws))) e
       in

@@ -71,7 +71,8 @@ module _ (ws : List ℤ) (i bits : ℕ) where
       → n ≡ of_z w32 (to_z w32 (of_z w32 (get_or ws i (pos 0)))) → all is_zero ws ≡ (eqb (bit_or bits n) 0 && all is_zero (drop (i + 1) ws))
   unfolding all is_zero
   zeros-turn h l f e =
-      h ∙ rw (add-one, drop-cons ws i (pos 0), or-test bits _, e, to_z-of_z f, zero_test (get_or ws i (pos 0)) f) (and_assoc (eqb bits 0) _ _)
+      h ∙ rw (add-one, drop-cons ws i (pos 0), or-test bits _, e, to_z-of_z f, zero_test (get_or ws i (pos 0)) f)
+      (and_assoc (eqb bits 0) _ _)
 
   pub zeros-end : all is_zero ws ≡ (eqb bits 0 && all is_zero (drop i ws)) → length ws ≤ i → eqb bits 0 ≡ all is_zero ws
   unfolding all

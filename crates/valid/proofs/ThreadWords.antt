@@ -10,7 +10,8 @@ use lib.IntN.{ℤ, pos}
 use lib.ListN.{length, get_or, take, drop, length-drop, take-append-drop}
 use Rattle.model.specs.Lists.{all, Each, pad, concat}
 use Rattle.model.specs.Syntax.{Program}
-use Rattle.model.specs.Pool.{Frame, Thread, most_frames, most_work, most_tokens, done_at, opened_at, promoted_at, frame_words, frame_count_at}
+use Rattle.model.specs.Pool.{Frame, Thread, most_frames, most_work, most_tokens, done_at, opened_at, promoted_at, frame_words}
+use Rattle.model.specs.Pool.{frame_count_at}
 use Rattle.model.specs.Pool.{work_at, tokens_at, frames_at, thread_words, frames, born, endowed, restacked, begin, words_of_frame}
 use Rattle.model.specs.Pool.{thread_head, words_of_thread, runs, word_at, count_at, frame_of, purse_of, thread_of, same_words, children}
 use Rattle.model.proofs.Facts.{and_left, and_right, both-and, right-false, or_right, each_map, eqb-true, eqb-false, eq-eqb, ne_eqb}
@@ -229,7 +230,8 @@ front (a ∷ []) h = absurd (omega arith)
 front (a ∷ b ∷ []) h = absurd (omega arith)
 front (a ∷ b ∷ c ∷ t) h = refl
 
-head-written : (t : List ℤ) → length t ≡ thread_words → length (frames (thread_of t)) ≡ num t frame_count_at → num t frame_count_at ≤ most_frames
+head-written : (t : List ℤ) → length t ≡ thread_words → length (frames (thread_of t)) ≡ num t frame_count_at
+    → num t frame_count_at ≤ most_frames
     → num t work_at ≤ most_work → num t tokens_at ≤ most_tokens → thread_head (thread_of t) ≡ take frames_at t
 unfolding thread_head word_at
 head-written t l e few w k =
@@ -257,7 +259,8 @@ module _ (P : Program) (t : List ℤ) (l : length t ≡ thread_words) where
       go (suc m) q =
           let c : num t frame_count_at ≡ suc m = counted ∙ frames-long t (suc m) q (omega arith) in
           let few : suc m ≤ most_frames = omega (arith, count-few t l) in
-          let w = split (thread_head (thread_of t)) _ t frames_at (head-length (thread_of t)) (sym (words_are t (suc m) q (omega arith)) ∙ e) in
+          let w =
+          split (thread_head (thread_of t)) _ t frames_at (head-length (thread_of t)) (sym (words_are t (suc m) q (omega arith)) ∙ e) in
           let r =
           padded-runs frame_words words_of_frame frame_of frame-sized most_frames (suc m) (drop frames_at t) few (body-long t l) w.back
           in

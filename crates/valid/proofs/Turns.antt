@@ -12,7 +12,8 @@ use lib.ListN.{length, take, drop, length-drop}
 use lib.Seq.{take_all, drop-drop}
 use Rattle.model.specs.Lists.{all}
 use Rattle.model.specs.Syntax.{Program}
-use Rattle.model.specs.Pool.{most_frames, most_threads, most_work, most_tokens, done_at, opened_at, promoted_at, frame_words, frame_count_at}
+use Rattle.model.specs.Pool.{most_frames, most_threads, most_work, most_tokens, done_at, opened_at, promoted_at, frame_words}
+use Rattle.model.specs.Pool.{frame_count_at}
 use Rattle.model.specs.Pool.{work_at, tokens_at, frames_at, thread_words, thread_count_at, threads_at, pool_words, frames, runs, thread_of}
 use Rattle.model.specs.Pool.{children, are_pool}
 use Rattle.model.proofs.Facts.{true-false, lt-ltb, le-ltb, leb-true, le-leb, and_left, and_right, both-and, not-true, not-false}
@@ -121,7 +122,8 @@ module _ (P : Program) (t : List ℤ) (l : length t ≡ thread_words) where
       (le-leb (num t tokens_at) most_tokens h.tokens))
       (not-true r b))
 
-  module _ (n : ℕ) (r : Bool) (e : n ≡ num t frame_count_at) (z : r ≡ all is_zero (piece (frames_at + frame_words * n) thread_words t)) where
+  module _ (n : ℕ) (r : Bool) (e : n ≡ num t frame_count_at)
+      (z : r ≡ all is_zero (piece (frames_at + frame_words * n) thread_words t)) where
     zeros-are : r ≡ all is_zero (drop (n * frame_words) (drop frames_at t))
     zeros-are = z ∙ ap (all is_zero) (behind-runs frames_at frame_words n thread_words t l)
 

@@ -1,4 +1,6 @@
 // Which words are a pool of a table (13): one look at each word, no copy, and the first fault ends it.
+#![tactic(auto)]
+
 ghost use Rattle.std.specs.Prelude.{◌≡◌, ◌*◌, ◌<◌, ◌≤◌, pos, length, get_or};
 ghost use Rattle.model.specs.Lists.{all};
 ghost use Rattle.model.specs.Pool.{blank, temporaries, most_frames, most_threads, frame_words, thread_words};

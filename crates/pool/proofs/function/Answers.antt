@@ -1,0 +1,7 @@
+-- `pool::function`: one word of the frame.
+use Rattle.pool.specs.InPlace.{frame_at}
+use Rattle.pool.proofs.function.Goals as goal
+
+pub returns : goal.returns
+unfolding frame_at
+returns c = c.byte_at.ensures
