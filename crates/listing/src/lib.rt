@@ -1,6 +1,8 @@
 // The two listings of a pool, into lent bytes: a thread's lines are its own line and then those of its children, one level deeper. Each
 // function is given the place where its text begins, and gives the place behind it; what does not fit is counted and not written, so that
 // the same functions tell the length.
+#![tactic(auto)]
+
 ghost use Rattle.std.specs.Prelude.{◌+◌, ◌≤◌, ◌<◌, ◌≡◌, cond, [], ◌++◌, length};
 ghost use Rattle.model.specs.Sets.{has};
 ghost use Rattle.model.specs.Text.{part, signed_part};
@@ -17,7 +19,7 @@ use answers::{Answer, No, Refusal, Written};
 use pool::Pool;
 
 // Who is shown a listing: the operator, who sees no values, or the customer.
-#[derive(Drop)]
+#[derive(Clone, Copy)]
 pub enum Viewer {
     Operator,
     Customer,
