@@ -1,4 +1,6 @@
 // The program's lines, into lent bytes. Each function is given the place where its text begins, and gives the place behind it.
+#![tactic(auto)]
+
 ghost use Rattle.std.specs.Prelude.{map};
 ghost use Rattle.model.specs.Lists.{concat};
 ghost use Rattle.model.specs.Text.{spaced, signed_part};

@@ -10,6 +10,7 @@ use pool::Pool;
 
 // Where the text goes, and a message.
 const STDOUT_FILENO: i32 = 1;
+
 const STDERR_FILENO: i32 = 2;
 
 // How long the text can get: a line is four digits and its end at most.
