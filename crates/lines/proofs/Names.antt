@@ -83,4 +83,4 @@ module _ (d : List ℕ) (at r : ℕ) (d' : List ℕ) (x : ℕ) where
 
 pub ruleset kinds = (step, promotion, no_kind)
 
-pub ruleset rules = (stmt, goto, then, else, call, return, spork, unpr, prom, promote)
+pub ruleset rule_names = (stmt, goto, then, else, call, return, spork, unpr, prom, promote)

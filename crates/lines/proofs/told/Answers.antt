@@ -1,5 +1,5 @@
 -- `lines::told`: a rule's name, or the refusal.
-use borrow.Author.Rules.{rules}
+use Rattle.std.proofs.Common.{rules}
 use Rattle.lines.proofs.Refusals.{answers}
 use Rattle.lines.proofs.told.Goals as goal
 

@@ -3,6 +3,7 @@ use Prim.Native.Nat.{◌-◌}
 use native.Mathlib.Omega.{arith}
 use mathlib.Core.Path.{◌≡◌, refl, ap}
 use mir.Facts.{to_z-of_z}
+use mir.Syntax.{w32}
 use borrow.Author.Rules.{rules, sfits_of}
 use lib.ListN.{length}
 use Rattle.model.specs.Text.{signed_part}
@@ -25,7 +26,7 @@ loop-i-preserved c =
       omega arith,
       omega arith,
       turned all c.loop-i.i c.loop-i.invariant.3 (search rules)
-          (same c.signed_part-k.ensures (ap signed_part (to_z-of_z (sfits_of c.signed_part-arg-in-loop-i-1.given)))),
+          (same c.signed_part-k.ensures (ap signed_part (to_z-of_z {w = w32} (sfits_of c.signed_part-arg-in-loop-i-1.given)))),
     )
 
 pub returns : goal.returns
