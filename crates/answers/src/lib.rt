@@ -7,7 +7,7 @@ ghost use Rattle.answers.specs.Answers.{refusal_of};
 ghost use Rattle.answers.specs.Coded.{code_of, given};
 
 // The numbers of what a call can refuse.
-#[derive(Drop)]
+#[derive(Clone, Copy)]
 pub struct No {}
 
 impl No {
@@ -81,7 +81,7 @@ impl No {
 }
 
 // The rules of figure 3.
-#[derive(Drop)]
+#[derive(Clone, Copy)]
 pub struct Rule {}
 
 impl Rule {
@@ -107,7 +107,7 @@ impl Rule {
 }
 
 // A refusal: the number alone; 3 with the offset of the first bad byte; 4 to 11, 25 and 26 with the function and the block.
-#[derive(Drop)]
+#[derive(Clone, Copy)]
 pub enum Refusal {
     Plain(u8),
     Byte(usize),
@@ -115,14 +115,14 @@ pub enum Refusal {
 }
 
 // The answer of a call that gives nothing more.
-#[derive(Drop)]
+#[derive(Clone, Copy)]
 pub enum Answer {
     Given,
     Refused(Refusal),
 }
 
 // The answer of a call that writes a table or a listing: how many bytes it has.
-#[derive(Drop)]
+#[derive(Clone, Copy)]
 pub enum Written {
     Bytes(u32),
     Refused(Refusal),

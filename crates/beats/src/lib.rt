@@ -16,7 +16,7 @@ use pool::Pool;
 use steps::Made;
 
 // The most that N and C can be.
-#[derive(Drop)]
+#[derive(Clone, Copy)]
 struct Pace {}
 
 impl Pace {
@@ -26,21 +26,21 @@ impl Pace {
 }
 
 // A thread's purse.
-#[derive(Clone, Copy, Drop)]
+#[derive(Clone, Copy)]
 struct Purse {
     pub work: u32,
     pub tokens: u32,
 }
 
 // The answer of a beat: the rule of its step and how many promotions it made; or its refusal.
-#[derive(Drop)]
+#[derive(Clone, Copy)]
 pub enum Beaten {
     Made(u8, u32),
     Refused(Refusal),
 }
 
 // How many steps and promotions a run made, and its answer: given, or the first refusal.
-#[derive(Drop)]
+#[derive(Clone, Copy)]
 pub struct Ran {
     pub steps: u64,
     pub promotions: u64,

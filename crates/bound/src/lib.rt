@@ -13,21 +13,21 @@ ghost use Rattle.bound.specs.Walks.{holds, binding, seen_as, fresh_as, statement
 use answers::No;
 
 // What a walk over the temporaries that something uses finds: all are in the set, with the offset behind; or one is not.
-#[derive(Drop)]
+#[derive(Clone, Copy)]
 pub enum Seen {
     Bound(usize),
     Unbound,
 }
 
 // What a walk that binds temporaries finds: the set afterwards with the offset behind, or the number of a fault.
-#[derive(Drop)]
+#[derive(Clone, Copy)]
 pub enum Walk {
     Done(u16, usize),
     Fault(u8),
 }
 
 // A set is asked for a number's last four bits, so there is nothing to test: all that a table names are below 16.
-#[derive(Drop)]
+#[derive(Clone, Copy)]
 pub struct Set {}
 
 impl Set {

@@ -11,14 +11,14 @@ use answers::{Answer, Refusal};
 use steps::{Made, Stepper};
 
 // The answer of a choice: the rule by which it was made, or its refusal.
-#[derive(Drop)]
+#[derive(Clone, Copy)]
 pub enum Chosen {
     Rule(u8),
     Refused(Refusal),
 }
 
 // The answer to which thread can step: the first that can; that none can; or a refusal.
-#[derive(Drop)]
+#[derive(Clone, Copy)]
 pub enum Stepping {
     Thread(usize),
     Nobody,
@@ -26,7 +26,7 @@ pub enum Stepping {
 }
 
 // The answer to what main's values are: given; still open; or a refusal.
-#[derive(Drop)]
+#[derive(Clone, Copy)]
 pub enum State {
     Given,
     Open,
@@ -34,7 +34,7 @@ pub enum State {
 }
 
 // The answer, and the values where they are given: the first `count` of four. All else is 0.
-#[derive(Drop)]
+#[derive(Clone, Copy)]
 pub struct Main {
     pub state: State,
     pub count: u8,

@@ -11,7 +11,7 @@ ghost use Rattle.code.specs.Code.{head_end, spawn_end, transfer_end_of, transfer
 
 // Where a table has its number of functions, behind its length and its version; the version, and how long a table may be; and both of
 // a brief table, which has the heads of its blocks without scope and nesting.
-#[derive(Drop)]
+#[derive(Clone, Copy)]
 pub struct Table {}
 
 impl Table {
@@ -88,7 +88,7 @@ pub fn operands(kind: usize) -> usize
 }
 
 // An argument list has no more temporaries than this.
-#[derive(Drop)]
+#[derive(Clone, Copy)]
 pub struct Arguments {}
 
 impl Arguments {

@@ -20,7 +20,7 @@ use places::{Layout, Place, Places};
 use transfers::Transfers;
 
 // What is lent: so many words at least, of which the inference takes the first; and so many bytes.
-#[derive(Drop)]
+#[derive(Clone, Copy)]
 pub struct Lent {}
 
 impl Lent {

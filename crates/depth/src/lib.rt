@@ -12,7 +12,7 @@ use code::Table;
 use places::{Layout, Place, Places};
 
 // What the transfer of a block calls: a function by its number, or nothing; or that there is no such block.
-#[derive(Drop)]
+#[derive(Clone, Copy)]
 enum Called {
     Function(u8),
     Nothing,
@@ -20,21 +20,21 @@ enum Called {
 }
 
 // The frames of a longest chain, or that the functions left do not suffice for it.
-#[derive(Drop)]
+#[derive(Clone, Copy)]
 enum Chain {
     Frames(u8),
     Endless,
 }
 
 // The answer: the frames, or a refusal.
-#[derive(Drop)]
+#[derive(Clone, Copy)]
 pub enum Needed {
     Frames(u8),
     Refused(Refusal),
 }
 
 // The kind of a call among transfers.
-#[derive(Drop)]
+#[derive(Clone, Copy)]
 struct Kind {}
 
 impl Kind {

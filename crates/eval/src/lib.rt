@@ -14,14 +14,14 @@ use code::Arguments;
 use pool::Pool;
 
 // An operand: a value, or a temporary that is not bound.
-#[derive(Drop)]
+#[derive(Clone, Copy)]
 enum Operand {
     Value(i32),
     Unbound,
 }
 
 // What working out an expression comes to: a value, an overflow, or a temporary of it is not bound.
-#[derive(Drop)]
+#[derive(Clone, Copy)]
 pub enum Evaluated {
     Value(i32),
     Overflow,
@@ -29,7 +29,7 @@ pub enum Evaluated {
 }
 
 // Values: the first of eight, as many as are ever passed on, and 0 behind them.
-#[derive(Drop)]
+#[derive(Clone, Copy)]
 pub struct Values {
     pub count: u8,
     pub at: [i32; Values::MOST],
@@ -40,7 +40,7 @@ impl Values {
 }
 
 // Values, or none: then no values.
-#[derive(Drop)]
+#[derive(Clone, Copy)]
 pub struct Looked {
     pub ok: bool,
     pub values: Values,

@@ -1,5 +1,7 @@
 // The program over lent memory: the input's bytes in, in pieces of any length, and the text that they make it print out. What it keeps
 // between two pieces is the table, its places, the pool, and a `Run`.
+#![tactic(auto)]
+
 ghost use Rattle.std.specs.Prelude.{◌≡◌, take as List·take};
 ghost use Rattle.flow.specs.declared.Phase.TheVariants.{Taking};
 ghost use Rattle.flow.specs.Stages as Stages;
@@ -11,7 +13,7 @@ use pool::Pool;
 use steps::Made;
 
 // What the bytes that come are taken for: the table's, choices', or nothing, since a choice or the table was refused.
-#[derive(Drop)]
+#[derive(Clone, Copy)]
 pub enum Phase {
     Taking,
     Choosing,
@@ -21,7 +23,7 @@ pub enum Phase {
 
 // How many bytes of the table have come; the next choice's index, and its kind once that has come; and where the text of the piece
 // ends.
-#[derive(Drop)]
+#[derive(Clone, Copy)]
 pub struct Run {
     pub phase: Phase,
     pub taken: usize,
@@ -32,7 +34,7 @@ pub struct Run {
 }
 
 // How many bytes a table has at least and at most, a piece of the input at most, and its text at most.
-#[derive(Drop)]
+#[derive(Clone, Copy)]
 pub struct Bytes;
 
 impl Bytes {

@@ -18,7 +18,7 @@ use places::{Layout, Place, Places};
 use transfers::Transfers;
 
 // The lowest block that is not reached, or that every block is.
-#[derive(Drop)]
+#[derive(Clone, Copy)]
 pub enum Lowest {
     Block(u8),
     Nothing,
@@ -306,7 +306,7 @@ fn arguments(s: &[u8], at: usize, bound: u16, needs: u16) -> u16
 }
 
 // What is bound behind statements, what they need besides, and the offset behind them.
-#[derive(Drop)]
+#[derive(Clone, Copy)]
 struct Walked {
     bound: u16,
     needs: u16,
@@ -350,7 +350,7 @@ fn used(s: &[u8], at: usize, bound: u16, needs: u16) -> u16
 }
 
 // What a block binds, and what is needed with what it needs itself.
-#[derive(Drop)]
+#[derive(Clone, Copy)]
 struct Needed {
     bound: u16,
     needs: u16,

@@ -14,7 +14,7 @@ use transfers::Transfers;
 
 // The array's record: how many numbers there is room for, where their new numbers begin, the array's length, and the new number of a
 // thing that is not kept.
-#[derive(Drop)]
+#[derive(Clone, Copy)]
 pub struct Kept {}
 
 impl Kept {
@@ -28,7 +28,7 @@ impl Kept {
 }
 
 // The kind of a spork among transfers.
-#[derive(Drop)]
+#[derive(Clone, Copy)]
 struct Kind {}
 
 impl Kind {

@@ -26,14 +26,14 @@ pub enum Viewer {
 }
 
 // The place behind lines that were put, and the number of the first thread that is not listed yet.
-#[derive(Drop)]
+#[derive(Clone, Copy)]
 pub struct Listed {
     pub at: usize,
     pub next: usize,
 }
 
 // A listing's length: never above this.
-#[derive(Drop)]
+#[derive(Clone, Copy)]
 pub struct Listing {}
 
 impl Listing {

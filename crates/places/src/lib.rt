@@ -8,7 +8,7 @@ ghost use Rattle.places.specs.Marks.{nowhere, short, mark_function, mark_spawn, 
 ghost use Rattle.places.specs.Places.{place_of, code_of, FindsFunction, FindsBlock, FindsCode, FindsSpawn};
 
 // Where a thing begins, or that there is none.
-#[derive(Drop)]
+#[derive(Clone, Copy)]
 pub enum Place {
     At(usize),
     Nowhere,
@@ -16,7 +16,7 @@ pub enum Place {
 
 // The array's record: how many functions there are places for, and how many spawn calls, blocks and pairs of lengths of each; where
 // the spawn calls, the blocks and the lengths begin; the array's length, and the entry of a thing that is not there.
-#[derive(Drop)]
+#[derive(Clone, Copy)]
 pub struct Layout {}
 
 impl Layout {

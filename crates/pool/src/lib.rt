@@ -13,7 +13,7 @@ ghost use Rattle.pool.specs.InPlace.{frame_at, newest_at, Named, Jumped, Advance
 ghost use Rattle.pool.specs.Frame.{model_of};
 
 // The pool's own record: its limits, where each word stands, and the empty frame.
-#[derive(Drop)]
+#[derive(Clone, Copy)]
 pub struct Pool;
 
 impl Pool {
@@ -98,7 +98,7 @@ impl Pool {
 }
 
 // A frame by value, as the empty one is. The first `opened` of `calls` are the open spawn calls, oldest first.
-#[derive(Drop)]
+#[derive(Clone, Copy)]
 pub struct Frame {
     pub function: u8,
     pub block: u8,

@@ -20,7 +20,7 @@ use pool::Pool;
 // enters `block` with spawn call `number` open, or with its last call closed; it calls function `number` and waits at `block`; it
 // returns; it waits at a promoted spoin to go to block `number`. A block that is entered by a rule has its parameters at
 // `parameters`. Values that are passed on, for the parameters, to the function, to the caller, are the first `count` of the buffer.
-#[derive(Clone, Copy, Drop)]
+#[derive(Clone, Copy)]
 pub enum Does {
     Refuse,
     Bind,
@@ -32,7 +32,7 @@ pub enum Does {
     Join,
 }
 
-#[derive(Drop)]
+#[derive(Clone, Copy)]
 pub struct Acted {
     pub does: Does,
     pub number: u8,
@@ -340,7 +340,7 @@ pub fn act(s: &[u8], places: &Places, ws: &[i32], k: usize, out: &mut [i32]) -> 
 }
 
 // The values that a frame returns, if that is what it does next: so many in the buffer.
-#[derive(Drop)]
+#[derive(Clone, Copy)]
 pub enum Ended {
     Gives(u8),
     Runs,

@@ -15,7 +15,7 @@ const STDERR_FILENO: i32 = 2;
 const VERDICT_FILENO: i32 = 3;
 
 // How a run ends: with a verdict, or where a read or a write failed.
-#[derive(Drop)]
+#[derive(Clone, Copy)]
 pub enum Outcome {
     Told(bool),
     Failed,

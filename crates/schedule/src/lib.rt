@@ -13,21 +13,21 @@ use places::{Layout, Places};
 use steps::Made;
 
 #[repr(C)]
-#[derive(Clone, Copy, Drop)]
+#[derive(Clone, Copy)]
 pub struct Choice {
     pub kind: u32,
     pub thread: u32,
 }
 
 // How many choices were made, and the answer: given, or the first refusal.
-#[derive(Drop)]
+#[derive(Clone, Copy)]
 pub struct Scheduled {
     pub made: usize,
     pub answer: Answer,
 }
 
 // How a run ends: all choices are made, or those before the one that is refused, with its number.
-#[derive(Drop)]
+#[derive(Clone, Copy)]
 enum Ran {
     All(usize),
     Stopped(usize, u8),

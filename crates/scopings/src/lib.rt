@@ -7,7 +7,7 @@ ghost use Rattle.scopings.specs.Words.{scope_in};
 ghost use Rattle.scopings.specs.Changes.{Cleared, level_in, names_in, marked, scoped};
 
 // How many scopes there are: a scope is the low half of a word.
-#[derive(Drop)]
+#[derive(Clone, Copy)]
 struct Half {}
 
 impl Half {

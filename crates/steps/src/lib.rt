@@ -18,14 +18,14 @@ use pool::Pool;
 use rules::{Acted, Does, Ended};
 
 // The rule by which a choice was made, or its refusal.
-#[derive(Drop)]
+#[derive(Clone, Copy)]
 pub enum Made {
     Rule(u8),
     Refused(u8),
 }
 
 // The oldest frame with an unpromoted call, by its place, and the call; or none.
-#[derive(Drop)]
+#[derive(Clone, Copy)]
 struct Unpromoted {
     pub ok: bool,
     pub at: usize,
@@ -33,7 +33,7 @@ struct Unpromoted {
 }
 
 // A thread that can step, or that there is none.
-#[derive(Drop)]
+#[derive(Clone, Copy)]
 pub enum Stepper {
     Thread(usize),
     Nobody,

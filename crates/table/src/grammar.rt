@@ -5,14 +5,14 @@ ghost use Rattle.table.specs.Skips.{skip_of, byte_of, body};
 ghost use Rattle.table.specs.Versions.{head_of};
 
 // A byte and the offset behind it, or the place of the first bad byte.
-#[derive(Drop)]
+#[derive(Clone, Copy)]
 pub enum Found {
     Byte(usize, usize),
     Wrong(usize),
 }
 
 // The offset behind what was passed over, or the place of the first bad byte.
-#[derive(Drop)]
+#[derive(Clone, Copy)]
 pub enum Skip {
     At(usize),
     Bad(usize),

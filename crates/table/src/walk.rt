@@ -11,7 +11,7 @@ ghost use Rattle.table.specs.Marks.{marked, along, block_marks_by, function_mark
 use crate::grammar::{Found, Skip, byte};
 use places::Places;
 
-#[derive(Drop)]
+#[derive(Clone, Copy)]
 pub enum Sizes {
     Has(usize, usize, usize),
     Lacks(usize),

@@ -10,21 +10,21 @@ use code::Opening;
 use places::{Place, Places};
 
 // A target block's head, or that there is no such block.
-#[derive(Drop)]
+#[derive(Clone, Copy)]
 pub enum Target {
     There(Opening),
     Missing,
 }
 
 // A function's numbers of parameters and of returned values, or that there is no such function.
-#[derive(Drop)]
+#[derive(Clone, Copy)]
 pub enum Callee {
     Takes(u8, u8),
     Unknown,
 }
 
 // Where a transfer stands: its function, what is bound, and its block's nesting.
-#[derive(Drop)]
+#[derive(Clone, Copy)]
 pub struct Here {
     pub f: usize,
     pub bound: u16,
@@ -33,7 +33,7 @@ pub struct Here {
 }
 
 // No fault, or the first fault's number.
-#[derive(Drop)]
+#[derive(Clone, Copy)]
 pub enum Verdict {
     Fine,
     Fault(u8),

@@ -10,7 +10,7 @@ ghost use Rattle.transfers.specs.Transfers.{nowhere, Finds, FindsTransfer};
 use places::{Layout, Place, Places};
 
 // The array's record: its length, how many offsets an entry holds, and the entry of a block that is not there.
-#[derive(Drop)]
+#[derive(Clone, Copy)]
 pub struct Ends {}
 
 impl Ends {

@@ -11,7 +11,7 @@ use places::{Place, Places};
 use pool::Pool;
 
 // How many children a thread has, or that its words are no thread.
-#[derive(Drop)]
+#[derive(Clone, Copy)]
 pub enum Children {
     Are(usize),
     Bad,

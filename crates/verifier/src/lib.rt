@@ -16,14 +16,14 @@ use places::{Place, Places};
 use targets::{Callee, Here, Verdict};
 
 // The blocks of a function: none has a fault, or the first fault's number and block.
-#[derive(Drop)]
+#[derive(Clone, Copy)]
 pub enum Ranked {
     Clean,
     Fault(u8, usize),
 }
 
 // The place of a fault: the block of one that stands in none, which is main's and a spawn call's.
-#[derive(Drop)]
+#[derive(Clone, Copy)]
 pub struct Placed {}
 
 impl Placed {
