@@ -1,32 +1,27 @@
 -- The whole listing: where it is put, whether it fits, and what the call answers and leaves.
-use Prim.Native.Nat.{ℕ, ◌+◌, ◌-◌, ◌^◌, ◌%◌, ◌<◌, ◌≤◌, min}
+use Prim.Native.Nat.{ℕ, ◌^◌, ◌%◌, ◌<◌, ◌≤◌}
 use native.Mathlib.Omega.{arith}
 use native.Mathlib.Nat.{zero-add}
-use mathlib.Core.Path.{◌≡◌, refl, sym, ap, subst, ◌∙◌}
+use mathlib.Core.Path.{◌≡◌, refl, sym, ap, ◌∙◌}
 use mathlib.Core.Bool.{Bool, true, false}
-use mathlib.Core.List.{List, ◌∷◌, ◌++◌}
+use mathlib.Core.List.{List, ◌++◌}
 use lib.Dec.{leb}
 use lib.IntN.{ℤ}
 use lib.ListN.{length, drop}
-use lib.Seq.{sets, sets-eq}
+use lib.Seq.{sets-eq}
 use Rattle.model.specs.Numbers as No
-use Rattle.model.specs.Answers.{Refusal, Answer, put}
-use Rattle.model.specs.Lists.{Each}
-use Rattle.model.specs.Pool.{Pool, Thread, frames}
+use Rattle.model.specs.Answers.{Answer, put}
 use Rattle.model.specs.Calls.{lent}
 use Rattle.model.proofs.Facts.{each_map, le-leb, leb-true, leb-false, put-fits, put-short}
 use Rattle.model.proofs.Valid.{pool-facts, some-thread}
 use Rattle.model.proofs.Words.{pool-fits}
 use Rattle.answers.specs.Answers.{refusal_of, Writes}
-use Rattle.answers.specs.declared.Written.{Written}
 use Rattle.answers.specs.declared.Written.TheVariants as written
 use Rattle.answers.specs.declared.Refusal as Why
 use Rattle.answers.specs.declared.Refusal.TheVariants.{Plain}
 use Rattle.lend.proofs.Lending.{Lending}
-use Rattle.pool.specs.Frame.{Small}
 use Rattle.pool.proofs.Pools.{small-thread}
-use Rattle.puts.specs.Puts.{Puts}
-use Rattle.views.specs.Listing.{Tree, Forest, grown, root_lines, listing, listed, list}
+use Rattle.views.specs.Listing.{root_lines, listing, listed, list}
 use Rattle.views.specs.Means.{Short, listing_bytes}
 use Rattle.listing.specs.declared.Viewer.{Viewer}
 use Rattle.listing.specs.declared.Listed.{Listed}
@@ -43,7 +38,8 @@ module _ (who : Viewer) (ws : List ℤ) where
   pub fits_all : {room : ℕ} → listing_bytes ≤ room → Fits who ws room true
   fits_all {room} h p x l = sym (le-leb (length (listing (viewer_of who) p)) room (omega arith))
 
-  pub fits-counted : (room : ℕ) {d : List ℕ} {r : ℕ} {d' : List ℕ} → length d ≡ 1 → PutsListing who ws d r d' → Fits who ws room (leb r room)
+  pub fits-counted : (room : ℕ) {d : List ℕ} {r : ℕ} {d' : List ℕ} → length d ≡ 1 → PutsListing who ws d r d'
+      → Fits who ws room (leb r room)
   fits-counted room {d} {r} e q p x l =
       let z = ((q p x).is (omega arith) (omega arith)).0 in
       let i : r ≡ length (listing (viewer_of who) p) = omega (arith, z) in
@@ -61,7 +57,8 @@ module _ {s places : List ℕ} {ws : List ℤ} (l : Lending s places ws) where
       }
 
 -- what the call answers: a refusal of the table or the words
-pub list-refused : (who : Viewer) (s : List ℕ) (ws : List ℤ) (out : List ℕ) (why : Why.Refusal) → lent s ws ≡ Answer.refused (refusal_of why)
+pub list-refused : (who : Viewer) (s : List ℕ) (ws : List ℤ) (out : List ℕ) (why : Why.Refusal)
+    → lent s ws ≡ Answer.refused (refusal_of why)
     → Writes (list (viewer_of who) s ws out) (written.Refused why) out
 unfolding list listed
 list-refused who s ws out why e = rw e (record { answer = refl; after = refl })

@@ -4,7 +4,7 @@ use native.Mathlib.Omega.{arith}
 use mathlib.Core.Path.{◌≡◌, refl, sym, ap, subst, ◌∙◌}
 use mathlib.Core.Bool.{Bool, true, false}
 use mathlib.Core.Option.{some}
-use mathlib.Core.List.{List, [], ◌∷◌, ◌++◌}
+use mathlib.Core.List.{List, ◌∷◌, ◌++◌}
 use lib.Dec.{leb}
 use lib.IntN.{ℤ}
 use lib.ListN.{length, length-append, get_elem?, drop}
@@ -19,7 +19,7 @@ use Rattle.pool.proofs.Steps.{threads-counted}
 use Rattle.puts.specs.Puts.{Puts}
 use Rattle.puts.proofs.Laws.{none, then, same}
 use Rattle.views.specs.Lines.{line}
-use Rattle.views.specs.Listing.{Tree, Forest, first, behind, grown, thread_lines, child_lines, listing, root_lines}
+use Rattle.views.specs.Listing.{Tree, Forest, first, behind, grown, thread_lines, child_lines}
 use Rattle.views.proofs.Grown.{grown-there, grown-past}
 use Rattle.listing.specs.declared.Viewer.{Viewer}
 use Rattle.listing.specs.declared.Listed.{Listed}

@@ -1,9 +1,9 @@
 -- Texts of a line that are put in a loop: spaces, and the bound temporaries with their values.
-use Prim.Native.Nat.{ℕ, zero, suc, ◌+◌, ◌-◌, ◌/◌, ◌%◌, ◌^◌, ◌≤◌, ◌<◌}
+use Prim.Native.Nat.{ℕ, zero, suc, ◌+◌, ◌-◌, ◌/◌, ◌%◌, ◌^◌, ◌<◌}
 use native.Mathlib.Omega.{arith}
 use native.Mathlib.Numerals.{add-one}
 use mathlib.Core.Path.{◌≡◌, refl, sym, ap, subst, ◌∙◌}
-use mathlib.Core.Bool.{true, false, cond}
+use mathlib.Core.Bool.{cond}
 use mathlib.Core.List.{List, [], ◌∷◌, ◌++◌}
 use lib.IntN.{ℤ, pos}
 use lib.ListN.{length, get_or, drop}
@@ -12,8 +12,8 @@ use borrow.Author.Tests.{eq-eqb, ne_eqb}
 use Rattle.model.specs.Sets.{has}
 use Rattle.model.specs.Text.{part, signed_part}
 use Rattle.puts.specs.Puts.{Puts}
-use Rattle.puts.proofs.Laws.{none, then, same}
-use Rattle.puts.proofs.Left.{Left, all_left, less-left, none_left}
+use Rattle.puts.proofs.Laws.{none, then}
+use Rattle.puts.proofs.Left.{Left, less-left, none_left}
 use Rattle.views.specs.Lines.{indent, bindings}
 
 module _ {d : List ℕ} {at : ℕ} {xs : List ℕ} where
@@ -57,4 +57,5 @@ module _ {d : List ℕ} {at : ℕ} {xs : List ℕ} (Γ : ℕ) (v̄ : List ℤ) w
 
   pub no-temporary : {d' : List ℕ} {k : ℕ} (x : ℕ) → x ≡ length v̄ → Left d at xs d' k (bindings Γ x (drop x v̄)) → Puts d at xs k d'
   unfolding bindings
-  no-temporary {d'} {k} x h l = none_left (subst (λ (w̄ : List ℤ). Left d at xs d' k (bindings Γ x w̄)) (ap (λ (n : ℕ). drop n v̄) h ∙ drop-length v̄) l)
+  no-temporary {d'} {k} x h l =
+      none_left (subst (λ (w̄ : List ℤ). Left d at xs d' k (bindings Γ x w̄)) (ap (λ (n : ℕ). drop n v̄) h ∙ drop-length v̄) l)
