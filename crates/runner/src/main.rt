@@ -9,6 +9,7 @@ use std::io::{Read, Stdin};
 
 // Where text and messages go.
 const STDOUT_FILENO: i32 = 1;
+
 const STDERR_FILENO: i32 = 2;
 
 // Where the verdict goes, if it is asked for.
@@ -118,6 +119,13 @@ fn main(rt: HostRuntime) {
     let mut ws = [0i32; Pool::WORDS];
     let mut out = [0u8; Bytes::TEXT];
     let mut piece = [0u8; Bytes::PIECE];
-    let how = serve(&mut rt.stdin(), &mut table, &mut places, &mut ws, &mut out, &mut piece);
+    let how = serve(
+        &mut rt.stdin(),
+        &mut table,
+        &mut places,
+        &mut ws,
+        &mut out,
+        &mut piece,
+    );
     conclude(&rt, how);
 }
