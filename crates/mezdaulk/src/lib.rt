@@ -1,4 +1,7 @@
-// The library for hosts: thin exports. include/mezdaulk.h says what each answer is.
+// The library for hosts: what each call answers, as one number. The exports of crate `mezdaulk_c` hand a host's call over as it is, and
+// include/mezdaulk.h says what each answer is.
+#![tactic(auto)]
+
 ghost use Rattle.std.specs.Prelude.{◌≡◌, min, cond, ltb, take};
 ghost use Rattle.std.proofs.Math.Option.{some};
 ghost use Rattle.model.specs.Answers as Model;
@@ -40,23 +43,20 @@ fn wrote(a: Written) -> u64
     }
 }
 
-#[unsafe(no_mangle)]
-pub extern "C" fn mezdaulk_read(table: &[u8]) -> u64
+pub fn mezdaulk_read(table: &[u8]) -> u64
     ensures { Contracts.Read table.now result }
 {
     let mut places = places::none();
     done(table::read(table, &mut places))
 }
 
-#[unsafe(no_mangle)]
-pub extern "C" fn mezdaulk_check(table: &[u8]) -> u64
+pub fn mezdaulk_check(table: &[u8]) -> u64
     ensures { Contracts.Check table.now result }
 {
     done(verifier::check(table))
 }
 
-#[unsafe(no_mangle)]
-pub extern "C" fn mezdaulk_depth(table: &[u8]) -> u64
+pub fn mezdaulk_depth(table: &[u8]) -> u64
     ensures { Contracts.Depth table.now result }
 {
     match depth::depth(table) {
@@ -65,30 +65,26 @@ pub extern "C" fn mezdaulk_depth(table: &[u8]) -> u64
     }
 }
 
-#[unsafe(no_mangle)]
-pub extern "C" fn mezdaulk_tidy(table: &[u8], out: &mut [u8]) -> u64
+pub fn mezdaulk_tidy(table: &[u8], out: &mut [u8]) -> u64
     ensures { Contracts.Tidy table.now out.old result out.new }
 {
     wrote(tidy::tidy(table, out))
 }
 
-#[unsafe(no_mangle)]
-pub extern "C" fn mezdaulk_complete(table: &[u8], out: &mut [u8], scratch: &mut [u32]) -> u64
+pub fn mezdaulk_complete(table: &[u8], out: &mut [u8], scratch: &mut [u32]) -> u64
     ensures { Contracts.Complete table.now out.old scratch.old result out.new
         scratch.new }
 {
     wrote(complete::complete(table, out, scratch))
 }
 
-#[unsafe(no_mangle)]
-pub extern "C" fn mezdaulk_start(table: &[u8], pool: &mut [i32]) -> u64
+pub fn mezdaulk_start(table: &[u8], pool: &mut [i32]) -> u64
     ensures { Contracts.Start table.now pool.old result pool.new }
 {
     done(calls::start(table, pool))
 }
 
-#[unsafe(no_mangle)]
-pub extern "C" fn mezdaulk_choose(table: &[u8], pool: &mut [i32], kind: u32, thread: u32) -> u64
+pub fn mezdaulk_choose(table: &[u8], pool: &mut [i32], kind: u32, thread: u32) -> u64
     ensures { Contracts.Choose table.now pool.old kind thread result pool.new }
 {
     match calls::choose(table, pool, kind, thread) {
@@ -97,8 +93,7 @@ pub extern "C" fn mezdaulk_choose(table: &[u8], pool: &mut [i32], kind: u32, thr
     }
 }
 
-#[unsafe(no_mangle)]
-pub extern "C" fn mezdaulk_which(table: &[u8], pool: &[i32]) -> u64
+pub fn mezdaulk_which(table: &[u8], pool: &[i32]) -> u64
     ensures { Contracts.Which table.now pool.now result }
 {
     match calls::which(table, pool) {
@@ -133,8 +128,7 @@ fn put_values(count: u8, found: [i32; 4], values: &mut [i32; 4]) -> u64
     answers::value(few(count))
 }
 
-#[unsafe(no_mangle)]
-pub extern "C" fn mezdaulk_values(table: &[u8], pool: &[i32], values: &mut [i32; 4]) -> u64
+pub fn mezdaulk_values(table: &[u8], pool: &[i32], values: &mut [i32; 4]) -> u64
     ensures { Contracts.Values table.now pool.now values.old result values.new }
 {
     let m = calls::values(table, pool);
@@ -156,21 +150,14 @@ fn report(answer: Scheduled, made: &mut u64) -> u64
     done(a)
 }
 
-#[unsafe(no_mangle)]
-pub extern "C" fn mezdaulk_schedule(
-    table: &[u8],
-    pool: &mut [i32],
-    choices: &[Choice],
-    made: &mut u64,
-) -> u64
+pub fn mezdaulk_schedule(table: &[u8], pool: &mut [i32], choices: &[Choice], made: &mut u64) -> u64
     ensures { Contracts.Schedule table.now pool.old (choices_of choices.now) result made.new
         pool.new }
 {
     report(schedule::schedule(table, pool, choices), made)
 }
 
-#[unsafe(no_mangle)]
-pub extern "C" fn mezdaulk_beat(table: &[u8], pool: &mut [i32], thread: u32, n: u32, c: u32) -> u64
+pub fn mezdaulk_beat(table: &[u8], pool: &mut [i32], thread: u32, n: u32, c: u32) -> u64
     ensures { Contracts.Beat table.now pool.old thread n c result pool.new }
 {
     match beats::beat(table, pool, thread, n, c) {
@@ -188,8 +175,7 @@ fn report_run(answer: Ran, made: &mut [u64; 2]) -> u64
     done(a)
 }
 
-#[unsafe(no_mangle)]
-pub extern "C" fn mezdaulk_run(
+pub fn mezdaulk_run(
     table: &[u8],
     pool: &mut [i32],
     n: u32,
@@ -203,15 +189,13 @@ pub extern "C" fn mezdaulk_run(
     report_run(beats::run(table, pool, n, c, threads), made)
 }
 
-#[unsafe(no_mangle)]
-pub extern "C" fn mezdaulk_operator(table: &[u8], pool: &[i32], out: &mut [u8]) -> u64
+pub fn mezdaulk_operator(table: &[u8], pool: &[i32], out: &mut [u8]) -> u64
     ensures { Contracts.Operator table.now pool.now out.old result out.new }
 {
     wrote(listing::operator(table, pool, out))
 }
 
-#[unsafe(no_mangle)]
-pub extern "C" fn mezdaulk_customer(table: &[u8], pool: &[i32], out: &mut [u8]) -> u64
+pub fn mezdaulk_customer(table: &[u8], pool: &[i32], out: &mut [u8]) -> u64
     ensures { Contracts.Customer table.now pool.now out.old result out.new }
 {
     wrote(listing::customer(table, pool, out))
