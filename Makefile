@@ -24,7 +24,7 @@ SOURCES := crates.txt $(shell find crates -path '*/src/*' -o -path '*/specs/*' -
 all: $(ARCHIVE) $(OUT)/libmezdaulk.so
 
 $(ARCHIVE): $(SOURCES)
-	rt staticlib mezdaulk
+	tools/build mezdaulk
 	touch $@
 
 # Every object of the archive is position independent. The other two names lead to the shared object.

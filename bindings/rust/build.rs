@@ -1,4 +1,4 @@
-//! Links the archive that `rt staticlib mezdaulk` writes.
+//! Links the archive that `tools/build mezdaulk` writes.
 
 use std::path::PathBuf;
 use std::process::exit;
@@ -12,7 +12,7 @@ fn main() {
     println!("cargo:rerun-if-changed={}", archive.display());
     if !archive.is_file() {
         eprintln!("{} is missing.", archive.display());
-        eprintln!("Run `rt staticlib mezdaulk` in the root of the repository, or set {FOLDER} to the archive's folder.");
+        eprintln!("Run `tools/build mezdaulk` in the root of the repository, or set {FOLDER} to the archive's folder.");
         exit(1);
     }
     println!("cargo:rustc-link-search=native={}", folder.display());

@@ -28,7 +28,7 @@
 //! ```
 //!
 //! What the theorem says of a table that [`check`] accepts stands in `docs/USING.md` of the repository. Building this crate needs
-//! the archive that `rt staticlib mezdaulk` writes there; `MEZDAULK_LIB_DIR` names another folder that has it.
+//! the archive that `tools/build mezdaulk` writes there; `MEZDAULK_LIB_DIR` names another folder that has it.
 
 #![deny(missing_docs)]
 

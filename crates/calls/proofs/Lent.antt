@@ -5,7 +5,7 @@ use mathlib.Core.Option.{none, some}
 use mathlib.Core.List.{List}
 use lib.IntN.{ℤ}
 use Rattle.model.specs.Answers.{Refusal, Answer, with}
-use Rattle.model.specs.Pool.{Thread, words_of, started}
+use Rattle.model.specs.Pool.{words_of, started}
 use Rattle.model.specs.Calls.{lent_words, lent, starting, start, chosen, choose, values, which}
 use Rattle.model.proofs.Kept.{choose-lent}
 use Rattle.steps.specs.declared.Made.{Made}

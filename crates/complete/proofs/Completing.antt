@@ -6,7 +6,6 @@ use mathlib.Core.List.{List}
 use lib.Dec.{leb, eqb}
 use lib.ListN.{length}
 use Rattle.model.specs.Numbers as No
-use Rattle.model.specs.Answers.{Refusal, Answer}
 use Rattle.model.specs.Read.{read_brief}
 use Rattle.model.proofs.Facts.{lt-leb, le-leb, ne_eqb, eq-eqb, both-and, right-false, outcome-given, outcome-refused}
 use Rattle.answers.specs.declared.Answer as Code

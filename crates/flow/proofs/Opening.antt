@@ -1,6 +1,5 @@
 -- A whole table is checked: it is opened, or refused.
 use Rattle.std.proofs.Common.{◌≡◌, ℕ, List, length, ℤ, sym, ap, ◌∙◌}
-use Rattle.model.specs.Answers.{Answer}
 use Rattle.model.specs.Pool.{words_of, started}
 use Rattle.model.specs.Text.{ascii, newline}
 use Rattle.model.specs.Output.{refusal}

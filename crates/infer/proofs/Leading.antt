@@ -22,7 +22,7 @@ use Rattle.transfers.specs.Transfers.{transfer_in, FindsTransfer}
 use Rattle.transfers.proofs.Blocks.{transfer-is}
 use Rattle.inference.specs.Infer.{Mark, at, leads, lead, upward, sweep, entered}
 use Rattle.inference.specs.Complete.{unmarked}
-use Rattle.scopings.specs.Words.{blocks, digits, mark_of, Held}
+use Rattle.scopings.specs.Words.{digits, mark_of, Held}
 use Rattle.scopings.specs.Changes.{level_in, names_in, Cleared, marked, Whole}
 use Rattle.scopings.proofs.Changing.{mark-is, whole-cleared, whole-marked, one-marks}
 use Rattle.infer.specs.declared.Nesting.{Nesting}

@@ -22,7 +22,7 @@ use Rattle.places.specs.declared.Place.{Place}
 use Rattle.places.specs.declared.Place.TheVariants.{At, Nowhere}
 use Rattle.places.specs.Places.{FindsCode}
 use Rattle.code.specs.Bytes.{byte_at, past}
-use Rattle.code.specs.Code.{count_at, arguments_at, statements_end, head_at, head_end, transfer_of, transfer_at, code_at, code_end, coded}
+use Rattle.code.specs.Code.{count_at, arguments_at, statements_end, transfer_of, transfer_at, code_at, code_end, coded}
 use Rattle.eval.specs.Given.{Looks}
 use Rattle.eval.proofs.Lists.{count-bound}
 use Rattle.eval.proofs.Buffers.{filled_none}

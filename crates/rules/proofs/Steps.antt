@@ -31,9 +31,9 @@ use Rattle.places.specs.declared.Place.TheVariants.{At, Nowhere}
 use Rattle.places.specs.Places.{spawn_in, Places, FindsBlock, FindsSpawn, FindsCode}
 use Rattle.code.specs.Bytes.{byte_at, past}
 use Rattle.code.specs.Code.{most, count_at, arguments_at, list_end, expression_at, expression_end, statement_at, statements_end}
-use Rattle.code.specs.Code.{head_at, head_end}
+use Rattle.code.specs.Code.{head_at}
 use Rattle.code.specs.Code.{goto_at, if_at, call_at, return_at, spork_at, spoin_at, transfer_of, transfer_at, code_at, code_end}
-use Rattle.code.specs.Code.{coded, block_at}
+use Rattle.code.specs.Code.{coded}
 use Rattle.eval.specs.declared.Evaluated.{Evaluated}
 use Rattle.eval.specs.declared.Evaluated.TheVariants.{Value, Overflow, Unbound}
 use Rattle.eval.specs.Given.{optional, evaluated_as, filled, Looks}

@@ -12,7 +12,7 @@ const REPETITIONS: usize = 9;
 pub fn time(run: &Looping, count: usize) {
     let program = Path::new(env!("CARGO_MANIFEST_DIR")).join("../../target/bin/runner");
     if !program.exists() {
-        println!("\nThe program is not there: rt check runner makes it.");
+        println!("\nThe program is not there: tools/build runner makes it.");
         return;
     }
     let mut input = run.table.clone();

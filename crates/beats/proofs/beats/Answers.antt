@@ -1,5 +1,4 @@
 -- `beats::beats` meets its contract.
-use Prim.Native.Nat.{◌-◌}
 use native.Mathlib.Omega.{arith}
 use borrow.Author.Rules.{rules}
 use Rattle.beats.proofs.Running.{few-made, going_start, going-made, going-refused, going-ends}

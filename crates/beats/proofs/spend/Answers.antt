@@ -1,7 +1,5 @@
 -- `beats::spend` meets its contract.
-use Prim.Native.Nat.{◌-◌}
 use borrow.Author.Rules.{rules}
-use Rattle.model.proofs.Facts.{not-true, not-false}
 use Rattle.beats.proofs.Paying.{spending-none, spending-more, spending-stops, spending-all}
 use Rattle.beats.proofs.spend.Goals as goal
 

@@ -1,5 +1,4 @@
 -- `complete::put_blocks` meets its contract.
-use Prim.Native.Nat.{◌-◌}
 use borrow.Author.Rules.{rules}
 use Rattle.complete.proofs.Placed.{blocks-first, blocks-next, blocks_end}
 use Rattle.complete.proofs.put_blocks.Goals as goal

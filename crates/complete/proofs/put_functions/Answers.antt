@@ -1,5 +1,4 @@
 -- `complete::put_functions` meets its contract.
-use Prim.Native.Nat.{◌-◌}
 use borrow.Author.Rules.{rules}
 use Rattle.complete.proofs.Functions.{functions-first, functions-next, functions-end}
 use Rattle.complete.proofs.put_functions.Goals as goal

@@ -1,5 +1,4 @@
 -- `complete::put_spawns` meets its contract.
-use Prim.Native.Nat.{◌-◌}
 use borrow.Author.Rules.{rules}
 use Rattle.complete.proofs.Placed.{spawns-first, spawns-next, spawns-end}
 use Rattle.complete.proofs.put_spawns.Goals as goal

@@ -1,5 +1,4 @@
 -- `complete::reached` meets its contract.
-use Prim.Native.Nat.{◌-◌}
 use borrow.Author.Rules.{rules}
 use Rattle.complete.proofs.Reaching.{reached-first, reached-next, reached-not, reached-end}
 use Rattle.complete.proofs.reached.Goals as goal

@@ -1,7 +1,6 @@
 -- `eval::begin` meets its contract.
 use borrow.Author.Rules.{rules, sfits_of}
 use native.Mathlib.Omega.{arith}
-use Prim.Native.Nat.{◌-◌}
 use mathlib.Core.Path.{refl}
 use Rattle.eval.proofs.Begins.{few-le, begins-starts, begins-goes, begins-ends}
 use Rattle.eval.proofs.begin.Goals as goal

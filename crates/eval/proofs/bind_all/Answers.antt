@@ -1,7 +1,6 @@
 -- `eval::bind_all` meets its contract.
 use borrow.Author.Rules.{rules, sfits_of}
 use native.Mathlib.Omega.{arith}
-use Prim.Native.Nat.{◌-◌}
 use mathlib.Core.Path.{refl}
 use Rattle.eval.proofs.Binds.{binds-starts, binds-goes, arguments-taken}
 use Rattle.eval.proofs.Lists.{count-bound}

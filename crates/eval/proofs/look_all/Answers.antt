@@ -1,6 +1,5 @@
 -- `eval::look_all` meets its contract.
 use borrow.Author.Rules.{sfits_of}
-use Prim.Native.Nat.{◌-◌}
 use Rattle.eval.proofs.Lists.{read-starts, read_goes, arguments-unbound, arguments-bound, count-bound}
 use Rattle.eval.proofs.look_all.Goals as goal
 

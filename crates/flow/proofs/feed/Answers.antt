@@ -1,5 +1,5 @@
 -- `flow::feed`: the loop has taken the first i bytes of the piece so far.
-use Rattle.std.proofs.Common.{◌-◌, rules}
+use Rattle.std.proofs.Common.{rules}
 use Rattle.flow.proofs.Feeding.{turned-first, turned-next, turned-last}
 use Rattle.flow.proofs.feed.Goals as goal
 

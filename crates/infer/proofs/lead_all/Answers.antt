@@ -1,5 +1,4 @@
 -- `infer::lead_all` meets its contract.
-use Prim.Native.Nat.{◌-◌}
 use Rattle.infer.proofs.Leading.{leads-first, leads-next, leads-end}
 use borrow.Author.Rules.{rules}
 use Rattle.infer.proofs.lead_all.Goals as goal

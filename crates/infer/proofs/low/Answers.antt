@@ -1,5 +1,4 @@
 -- `infer::low` meets its contract.
-use Prim.Native.Nat.{◌-◌}
 use Rattle.infer.proofs.Leading.{low_first, low-next, low-found, low_end}
 use borrow.Author.Rules.{rules}
 use Rattle.infer.proofs.low.Goals as goal

@@ -1,5 +1,4 @@
 -- `kept::blocks` meets its contract.
-use Prim.Native.Nat.{◌-◌}
 use Rattle.kept.proofs.Ends.{blocks-first, blocks-next, blocks-stop, blocks_end}
 use borrow.Author.Rules.{rules}
 use Rattle.kept.proofs.blocks.Goals as goal

@@ -1,5 +1,4 @@
 -- `kept::functions` meets its contract.
-use Prim.Native.Nat.{◌-◌}
 use Rattle.kept.proofs.Ends.{functions-first, functions-next, functions-stop, functions-end}
 use borrow.Author.Rules.{rules}
 use Rattle.kept.proofs.functions.Goals as goal

@@ -1,5 +1,4 @@
 -- `kept::mentioned_in` meets its contract.
-use Prim.Native.Nat.{◌-◌}
 use Rattle.kept.proofs.Loops.{kept-all, kept_next}
 use Rattle.kept.proofs.Ends.{mentioned-kept}
 use borrow.Author.Rules.{rules}

@@ -1,5 +1,4 @@
 -- `kept::spawns` meets its contract.
-use Prim.Native.Nat.{◌-◌}
 use Rattle.kept.proofs.Loops.{kept-all, kept_next}
 use Rattle.kept.proofs.Ends.{spawns-kept}
 use borrow.Author.Rules.{rules}

@@ -1,5 +1,4 @@
 -- `lines::values`: the loop has put the first i values so far.
-use Prim.Native.Nat.{◌-◌}
 use native.Mathlib.Omega.{arith}
 use mathlib.Core.Path.{◌≡◌, refl, ap}
 use mir.Facts.{to_z-of_z}

@@ -1,5 +1,4 @@
 -- `scopings::clear` meets its contract: the words below i are 0.
-use Prim.Native.Nat.{◌-◌}
 use native.Mathlib.Omega.{arith}
 use lib.ListN.{length-set}
 use Rattle.scopings.proofs.Changing.{clear_none, clear_next, clear-all}

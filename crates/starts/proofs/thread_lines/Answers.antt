@@ -1,5 +1,4 @@
 -- `starts::thread_lines`: the loop has put the lines of the frames before this one.
-use Prim.Native.Nat.{◌-◌}
 use mathlib.Core.Path.{refl}
 use native.Mathlib.Omega.{arith}
 use borrow.Author.Rules.{rules}

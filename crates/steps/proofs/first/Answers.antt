@@ -1,4 +1,3 @@
-use Prim.Native.Nat.{◌-◌}
 use borrow.Author.Rules.{rules}
 use Rattle.steps.proofs.Stepping.{idle-none, idle-more, idle-all, idle-goes}
 use Rattle.steps.proofs.first.Goals as goal

@@ -1,6 +1,5 @@
 use Rattle.steps.proofs.Applying.{passed_none, passed-more, finds-holder, finds-none}
 use borrow.Author.Rules.{rules}
-use Prim.Native.Nat.{◌-◌}
 use Rattle.steps.proofs.oldest.Goals as goal
 
 pub loop-j-init : goal.loop-j-init

@@ -1,5 +1,4 @@
 -- `tidy::put_functions` meets its contract.
-use Prim.Native.Nat.{◌-◌}
 use Rattle.tidy.proofs.Lists.{functions-first, functions-next, functions-end}
 use borrow.Author.Rules.{rules}
 use Rattle.tidy.proofs.put_functions.Goals as goal

@@ -1,5 +1,4 @@
 -- `tidy::put_spawns` meets its contract.
-use Prim.Native.Nat.{◌-◌}
 use Rattle.tidy.proofs.Lists.{each_first, each_next, each-end}
 use borrow.Author.Rules.{rules}
 use Rattle.tidy.proofs.put_spawns.Goals as goal

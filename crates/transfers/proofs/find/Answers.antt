@@ -1,5 +1,4 @@
 -- `transfers::find` meets its contract.
-use Prim.Native.Nat.{◌-◌}
 use Rattle.transfers.proofs.Filling.{filling-none, filling_skip, filling-next, filling-end}
 use Rattle.transfers.proofs.find.Goals as goal
 

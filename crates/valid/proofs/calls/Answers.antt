@@ -1,5 +1,4 @@
 -- `valid::calls`: the words before i are spawn calls.
-use Prim.Native.Nat.{◌-◌}
 use native.Mathlib.Omega.{arith}
 use Rattle.valid.specs.Judged.{is_call}
 use Rattle.valid.proofs.Lookups.{call-there, call-gone}

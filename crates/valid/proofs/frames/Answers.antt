@@ -1,6 +1,5 @@
 -- `valid::frames`: the frames from `left` on are right, and have `sum` promoted calls.
 use mathlib.Core.Path.{refl}
-use mathlib.Core.Bool.{true}
 use native.Mathlib.Omega.{arith}
 use lib.ListN.{length-take, length-drop}
 use Rattle.valid.proofs.Turns.{frame-bad, follow-bad, frame-fine, one_more, frames-end}

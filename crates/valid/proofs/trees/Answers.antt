@@ -1,5 +1,4 @@
 -- `valid::trees`: the threads before i are right, and `demands` trees are still to come.
-use Prim.Native.Nat.{◌-◌}
 use native.Mathlib.Omega.{arith}
 use lib.ListN.{length-take, length-drop}
 use Rattle.valid.proofs.Turns.{few-are, are-answers, bad-answers, trees-begin, no-demand, no-thread, thread-goes, trees-end}

@@ -1,5 +1,4 @@
 -- `valid::values`: the values before i are right, or not fine.
-use Prim.Native.Nat.{◌-◌}
 use mathlib.Core.Path.{refl}
 use native.Mathlib.Omega.{arith}
 use borrow.Author.Rules.{sfits_of}

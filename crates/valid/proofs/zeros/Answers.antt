@@ -1,5 +1,4 @@
 -- `valid::zeros`: the words before i are 0 where their bits are.
-use Prim.Native.Nat.{◌-◌}
 use mathlib.Core.Path.{refl}
 use native.Mathlib.Omega.{arith}
 use borrow.Author.Rules.{sfits_of}

@@ -1,5 +1,4 @@
 -- `verifier::blocks_all` meets its contract.
-use Prim.Native.Nat.{◌-◌}
 use Rattle.verifier.proofs.Ranks.{blocks-none, blocks-stop, blocks_end, blocks-on}
 use Rattle.verifier.proofs.blocks_all.Goals as goal
 

@@ -1,5 +1,4 @@
 -- `verifier::functions` meets its contract.
-use Prim.Native.Nat.{◌-◌}
 use Rattle.verifier.proofs.Ranks.{functions-none, functions-spawn, functions-block, functions-end, functions-on}
 use Rattle.verifier.proofs.functions.Goals as goal
 

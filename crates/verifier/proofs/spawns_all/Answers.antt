@@ -1,5 +1,4 @@
 -- `verifier::spawns_all` meets its contract.
-use Prim.Native.Nat.{◌-◌}
 use Rattle.verifier.proofs.Ranks.{spawns-none, spawns-stop, spawns-end, spawns-on}
 use Rattle.verifier.proofs.spawns_all.Goals as goal
 
