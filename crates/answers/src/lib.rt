@@ -5,141 +5,136 @@ ghost use Rattle.std.specs.Prelude.{◌≡◌};
 ghost use Rattle.model.specs.Answers as Model;
 ghost use Rattle.answers.specs.Answers.{refusal_of};
 ghost use Rattle.answers.specs.Coded.{code_of, given};
+ghost use Rattle.answers.specs.declared.Refusal.TheVariants.{Plain};
 
-// The numbers of what a call can refuse.
-#[derive(Clone, Copy)]
-pub struct No {}
+// The number of what a call can refuse. It is no enum: `code` here and `lines::refusal` say what they say of every number of a byte.
+#[derive(Clone, Copy, PartialEq, Eq, Debug)]
+pub struct No(pub u8);
 
 impl No {
     // the table
-    pub const SIZE: u8 = 1;
+    pub const SIZE: No = No(1);
 
-    pub const VERSION: u8 = 2;
+    pub const VERSION: No = No(2);
 
-    pub const FORM: u8 = 3;
+    pub const FORM: No = No(3);
 
     // the check
-    pub const MAIN: u8 = 4;
+    pub const MAIN: No = No(4);
 
-    pub const ENTRY: u8 = 5;
+    pub const ENTRY: No = No(5);
 
-    pub const MISSING: u8 = 6;
+    pub const MISSING: No = No(6);
 
-    pub const TWICE: u8 = 7;
+    pub const TWICE: No = No(7);
 
-    pub const UNBOUND: u8 = 8;
+    pub const UNBOUND: No = No(8);
 
-    pub const COUNT: u8 = 9;
+    pub const COUNT: No = No(9);
 
-    pub const SCOPE: u8 = 10;
+    pub const SCOPE: No = No(10);
 
-    pub const NESTING: u8 = 11;
+    pub const NESTING: No = No(11);
 
     // the pool
-    pub const WORDS: u8 = 12;
+    pub const WORDS: No = No(12);
 
-    pub const POOL: u8 = 13;
+    pub const POOL: No = No(13);
 
     // a choice
-    pub const KIND: u8 = 14;
+    pub const KIND: No = No(14);
 
-    pub const THREAD: u8 = 15;
+    pub const THREAD: No = No(15);
 
-    pub const ENDED: u8 = 16;
+    pub const ENDED: No = No(16);
 
-    pub const WAITS: u8 = 17;
+    pub const WAITS: No = No(17);
 
-    pub const FRAMES: u8 = 18;
+    pub const FRAMES: No = No(18);
 
-    pub const STUCK: u8 = 19;
+    pub const STUCK: No = No(19);
 
-    pub const PROMOTED: u8 = 20;
+    pub const PROMOTED: No = No(20);
 
-    pub const THREADS: u8 = 21;
+    pub const THREADS: No = No(21);
 
     // the calls of an accepted table
-    pub const CYCLE: u8 = 22;
+    pub const CYCLE: No = No(22);
 
     // the tidy table
-    pub const ROOM: u8 = 23;
+    pub const ROOM: No = No(23);
 
     // a completion
-    pub const LENT: u8 = 24;
+    pub const LENT: No = No(24);
 
-    pub const UNREACHED: u8 = 25;
+    pub const UNREACHED: No = No(25);
 
-    pub const IMPOSSIBLE: u8 = 26;
+    pub const IMPOSSIBLE: No = No(26);
 
     // a beat, and a run of beats
-    pub const PACE: u8 = 27;
+    pub const PACE: No = No(27);
 
     // a listing
-    pub const LISTING: u8 = 28;
+    pub const LISTING: No = No(28);
 
     // a step whose expression overflows
-    pub const OVERFLOW: u8 = 29;
+    pub const OVERFLOW: No = No(29);
 }
 
-// The rules of figure 3.
-#[derive(Clone, Copy)]
-pub struct Rule {}
+// A rule of figure 3, by its number. It is no enum: `lines::choice` says what it says of every number of a byte.
+#[derive(Clone, Copy, PartialEq, Eq, Debug)]
+pub struct Rule(pub u8);
 
 impl Rule {
-    pub const STMT: u8 = 1;
+    pub const STMT: Rule = Rule(1);
 
-    pub const GOTO: u8 = 2;
+    pub const GOTO: Rule = Rule(2);
 
-    pub const THEN: u8 = 3;
+    pub const THEN: Rule = Rule(3);
 
-    pub const ELSE: u8 = 4;
+    pub const ELSE: Rule = Rule(4);
 
-    pub const CALL: u8 = 5;
+    pub const CALL: Rule = Rule(5);
 
-    pub const RETURN: u8 = 6;
+    pub const RETURN: Rule = Rule(6);
 
-    pub const SPORK: u8 = 7;
+    pub const SPORK: Rule = Rule(7);
 
-    pub const UNPR: u8 = 8;
+    pub const UNPR: Rule = Rule(8);
 
-    pub const PROM: u8 = 9;
+    pub const PROM: Rule = Rule(9);
 
-    pub const PROMOTE: u8 = 10;
+    pub const PROMOTE: Rule = Rule(10);
 }
 
 // A refusal: the number alone; 3 with the offset of the first bad byte; 4 to 11, 25 and 26 with the function and the block.
-#[derive(Clone, Copy)]
+#[derive(Clone, Copy, PartialEq, Eq, Debug)]
 pub enum Refusal {
-    Plain(u8),
+    Plain(No),
     Byte(usize),
-    Fault(u8, usize, usize),
+    Fault(No, usize, usize),
 }
 
-// The answer of a call that gives nothing more.
-#[derive(Clone, Copy)]
-pub enum Answer {
-    Given,
-    Refused(Refusal),
-}
+impl From<No> for Refusal {
+    ghost from_gives = { λ number r. r ≡ Plain number };
 
-// The answer of a call that writes a table or a listing: how many bytes it has.
-#[derive(Clone, Copy)]
-pub enum Written {
-    Bytes(u32),
-    Refused(Refusal),
+    fn from(number: No) -> Self {
+        Self::Plain(number)
+    }
 }
 
 // 3, with the offset of the first bad byte.
 fn bad_byte(at: usize) -> u64
     ensures { result ≡ code_of (Model.Refusal.byte at) }
 {
-    (No::FORM as u64) + 256 * ((at % 16777216) as u64)
+    (No::FORM.0 as u64) + 256 * ((at % 16777216) as u64)
 }
 
 // 4 to 11, 25 and 26, with the function and the block.
-fn fault(number: u8, function: usize, block: usize) -> u64
-    ensures { result ≡ code_of (Model.Refusal.fault number function block) }
+fn fault(number: No, function: usize, block: usize) -> u64
+    ensures { result ≡ code_of (Model.Refusal.fault number.0 function block) }
 {
-    (number as u64) + 256 * ((block % 256) as u64) + 65536 * ((function % 256) as u64)
+    (number.0 as u64) + 256 * ((block % 256) as u64) + 65536 * ((function % 256) as u64)
 }
 
 // A refusal as one number.
@@ -147,7 +142,7 @@ pub fn code(r: Refusal) -> u64
     ensures { result ≡ code_of (refusal_of r) }
 {
     match r {
-        Refusal::Plain(number) => number as u64,
+        Refusal::Plain(number) => number.0 as u64,
         Refusal::Byte(at) => bad_byte(at),
         Refusal::Fault(number, function, block) => fault(number, function, block),
     }

@@ -1,5 +1,5 @@
 -- Promotions of a thread: one that is paid, and as many as it can pay.
-use Prim.Native.Nat.{ℕ, zero, suc, ◌+◌, ◌-◌, ◌≤◌, ◌<◌}
+use Prim.Native.Nat.{ℕ, zero, suc, ◌+◌, ◌-◌, ◌<◌}
 use mathlib.Core.Path.{◌≡◌, refl, sym, ap, subst, ◌∙◌}
 use mathlib.Core.Bool.{Bool, true, false, cond}
 use mathlib.Core.List.{List}
@@ -9,17 +9,18 @@ use lib.Dec.{ltb}
 use lib.IntN.{ℤ}
 use lib.ListN.{length}
 use Rattle.model.specs.Syntax.{Program}
-use Rattle.model.specs.Pool.{Purse, Pool, most_threads, pool_words}
+use Rattle.model.specs.Pool.{Purse, Pool, most_threads}
 use Rattle.model.specs.Rules.{Result, choice}
-use Rattle.model.proofs.Facts.{lt-ltb, le-ltb}
+use Rattle.model.proofs.Facts.{lt-ltb, le-ltb, true-false}
 use Rattle.places.specs.Places.{Places}
-use Rattle.steps.specs.declared.Made.{Made}
-use Rattle.steps.specs.declared.Made.TheVariants.{Rule, Refused}
-use Rattle.steps.specs.Choice.{Chooses}
+use Rattle.std.specs.Prelude.{Ok, Err, is_err}
+use Rattle.answers.specs.declared.No.{No}
+use Rattle.answers.specs.declared.Rule.{Rule}
+use Rattle.steps.specs.Choice.{Made, Chooses}
 use Rattle.steps.proofs.Choosing.{chose-made, chose-refused}
 use Rattle.tokens.specs.Purses.{purse_at, shared}
 use Rattle.tokens.specs.Beats.{Spent, paying, spend}
-use Rattle.beats.specs.declared.Purse.{Purse as Lent}
+use Rattle.beats.specs.declared.purse.Purse.{Purse as Lent}
 use Rattle.beats.specs.Purses.{Holds, Finds, Shares}
 use Rattle.beats.specs.Beating.{unspent, spent_more, Paid, Unpaid, PaidOr, Pays, Spends}
 
@@ -52,20 +53,28 @@ module _ {s places : List ℕ} {ws : List ℤ} (i : ℕ) (e : Lent) (f : Finds w
   pays-poor z P p q h = record { holds = h; is = spend-poor P p i (sym (tokens-found i e f P p h) ∙ z) }
 
   module _ {r : Made} {ws' : List ℤ} (c : Chooses s places ws 1 i r ws') where
-    pub pays-refused : {n : ℕ} → r ≡ Refused n → Pays s places ws i false ws'
-    pays-refused {n} z P p q h =
-        let x = chose-refused P p ws 1 i ws' n (subst (λ (m : Made). Chooses s places ws 1 i m ws') z c P p q h.words h.valid) in
-        record { holds = record { words = x.1 ∙ h.words; valid = h.valid }; is = spend-refused P p i x.0 }
+    pub pays-refused : {b : Bool} → b ≡ is_err r → b ≡ true → Pays s places ws i false ws'
+    pays-refused {b} d z P p q h = go r (sym d ∙ z) c
+      where
+        go : (m : Made) → is_err {T = Rule} {E = No} m ≡ true → Chooses s places ws 1 i m ws' → Unpaid P p i ws'
+        go (Ok rule) y c = true-false (is_err {T = Rule} {E = No} (Ok rule)) y refl
+        go (Err n) y c =
+            let x = chose-refused P p ws 1 i ws' n.0 (c P p q h.words h.valid) in
+            record { holds = record { words = x.1 ∙ h.words; valid = h.valid }; is = spend-refused P p i x.0 }
 
-    pub pays-made : {rule : ℕ} {ws'' : List ℤ} → (e.tokens ≡ 0 → ⊥) → r ≡ Rule rule → Shares ws' i ws'' → Pays s places ws i true ws''
-    pays-made {rule} {ws''} t z g P p q h =
-        let x = chose-made P p ws 1 i ws' rule q.limits h.valid
-        (subst (λ (m : Made). Chooses s places ws 1 i m ws') z c P p q h.words h.valid) in
-        record {
-          pool = shared i x.pool;
-          holds = g P x.pool (record { words = x.words; valid = x.valid });
-          is = spend-made P p i (omega (arith, t, tokens-found i e f P p h)) x.is;
-        }
+    pub pays-made : {b : Bool} {ws'' : List ℤ} → (e.tokens ≡ 0 → ⊥) → b ≡ is_err r → b ≡ false → Shares ws' i ws''
+        → Pays s places ws i true ws''
+    pays-made {b} {ws''} t d z g P p q h = go r (sym d ∙ z) c
+      where
+        go : (m : Made) → is_err {T = Rule} {E = No} m ≡ false → Chooses s places ws 1 i m ws' → Paid P p i ws''
+        go (Err n) y c = true-false (is_err {T = Rule} {E = No} (Err n)) refl y
+        go (Ok rule) y c =
+            let x = chose-made P p ws 1 i ws' rule.0 q.limits h.valid (c P p q h.words h.valid) in
+            record {
+              pool = shared i x.pool;
+              holds = g P x.pool (record { words = x.words; valid = x.valid });
+              is = spend-made P p i (omega (arith, t, tokens-found i e f P p h)) x.is;
+            }
 
 -- made of them: so many are made, and the rest is that of another pool, with as many fewer to try
 pub record SpentBy (P : Program) (p : Pool) (i n : ℕ) (ws : List ℤ) : Type 0 where
@@ -75,18 +84,17 @@ pub record SpentBy (P : Program) (p : Pool) (i n : ℕ) (ws : List ℤ) : Type 0
   pub left : (spend most_threads P i p).pool ≡ (spend (most_threads - n) P i pool).pool
 
 pub record Spending (s places : List ℕ) (ws₀ ws : List ℤ) (i n : ℕ) : Type 0 where
-  pub long : length ws ≡ pool_words
   pub at : (P : Program) (p : Pool) → Places s P places → Holds P ws₀ p → SpentBy P p i n ws
 
-pub spending-none : (s places : List ℕ) (ws : List ℤ) (i : ℕ) → length ws ≡ pool_words → Spending s places ws ws i 0
-spending-none s places ws i l =
-    record { long = l; at = λ P p q h. record { pool = p; holds = h; count = sym (zero-add _); left = refl } }
+pub spending-none : (s places : List ℕ) (ws : List ℤ) (i : ℕ) → Spending s places ws ws i 0
+spending-none s places ws i =
+    record { at = λ P p q h. record { pool = p; holds = h; count = sym (zero-add _); left = refl } }
 
 module _ {s places : List ℕ} {ws₀ ws : List ℤ} {i n : ℕ} (g : Spending s places ws₀ ws i n) where
-  pub spending-more : {ws' : List ℤ} (r : Bool) → r ≡ true → n < most_threads → length ws' ≡ pool_words → Pays s places ws i r ws'
+  pub spending-more : {ws' : List ℤ} (r : Bool) → r ≡ true → n < most_threads → Pays s places ws i r ws'
       → Spending s places ws₀ ws' i (n + 1)
-  spending-more {ws'} r e few l f =
-      record { long = l; at = λ P p q h. one P p (g.at P p q h) (λ p' h'. subst (λ (b : Bool). PaidOr b P p' i ws') e (f P p' q h')) }
+  spending-more {ws'} r e few f =
+      record { at = λ P p q h. one P p (g.at P p q h) (λ p' h'. subst (λ (b : Bool). PaidOr b P p' i ws') e (f P p' q h')) }
     where
       one : (P : Program) (p : Pool) → SpentBy P p i n ws → ((p' : Pool) → Holds P ws p' → Paid P p' i ws') → SpentBy P p i (n + 1) ws'
       one P p x k =
@@ -113,13 +121,13 @@ module _ {s places : List ℕ} {ws₀ ws : List ℤ} {i n : ℕ} (g : Spending s
         holds = subst (Holds P ws') (sym (x.left ∙ ap (λ (w : Spent). w.pool) z)) y.holds;
       }
 
-  pub spending-all : most_threads ≤ n → Spends s places ws₀ i n ws
+  pub spending-all : most_threads ≡ n → Spends s places ws₀ i most_threads ws
   unfolding spend
   spending-all l P p q h =
       let x = g.at P p q h in
       let m : most_threads - n ≡ 0 = omega arith in
       let z : spend (most_threads - n) P i x.pool ≡ unspent x.pool = ap (λ (j : ℕ). spend j P i x.pool) m in
       record {
-        count = sym (x.count ∙ ap (λ (w : Spent). n + length w.from) z ∙ add-zero n);
+        count = l ∙ sym (x.count ∙ ap (λ (w : Spent). n + length w.from) z ∙ add-zero n);
         holds = subst (Holds P ws) (sym (x.left ∙ ap (λ (w : Spent). w.pool) z)) x.holds;
       }

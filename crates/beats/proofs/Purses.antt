@@ -16,8 +16,8 @@ use Rattle.pool.proofs.Steps.{work-said, tokens-said}
 use Rattle.steps.proofs.Choosing.{Around, around, is_held, pool-counted}
 use Rattle.tokens.specs.Purses.{arrive, worked, handed, kept, purse_in, purse_at, endow, shared}
 use Rattle.tokens.proofs.Purses.{purse-fits, endow-valid}
-use Rattle.beats.specs.declared.Purse.{Purse as Lent}
-use Rattle.beats.specs.Purses.{purse_of, Good, Holds, Finds, Endows, Earns, Shares}
+use Rattle.beats.specs.declared.purse.Purse.{Purse as Lent}
+use Rattle.beats.specs.Purses.{purse_of, Holds, Finds, Endows, Earns, Shares}
 
 -- the purse of a thread, and another for it, where the thread stands between others and where there is none
 purse-amid : (a : Pool) (t : Thread) (b : Pool) → purse_at (a ++ t ∷ b) (length a) ≡ t.purse
@@ -56,12 +56,13 @@ module _ (P : Program) (p : Pool) {ws : List ℤ} (h : Holds P ws p) {i : ℕ} (
       ∙ ap (λ (j : ℕ). endow j e (x.front ++ x.thread ∷ x.back)) (sym x.place)
       ∙ endow-amid e x.front x.thread x.back
 
-good-fits : (e : Lent) → Good e → IsPurse (purse_of e)
-good-fits e g = record { work = g.0; tokens = g.1 }
+good-fits : (e : Lent) → IsPurse (purse_of e)
+good-fits e = record { work = e.good.0; tokens = e.good.1 }
 
 module _ (ws : List ℤ) (i : ℕ) {n : ℕ} (c : n ≡ threads_in ws) where
-  pub finds-purse : (w k : ℕ) → i < n → w ≡ work_in ws i → k ≡ tokens_in ws i → Finds ws i (record { work = w; tokens = k })
-  finds-purse w k l e f P p h =
+  pub finds-purse : {w k : ℕ} → i < n → w ≡ work_in ws i → k ≡ tokens_in ws i → (P : Program) (p : Pool) → Holds P ws p
+      → ◌≡◌ {A = Purse} (record { work = w; tokens = k }) (purse_at p i)
+  finds-purse {w} {k} l e f P p h =
       let x = around p i (omega (arith, pool-counted P p h.words h.valid)) in
       let q = purse-of P p h x in
       let g : IsPurse x.thread.purse = subst IsPurse q (purse-fits P p i h.valid) in
@@ -69,17 +70,17 @@ module _ (ws : List ℤ) (i : ℕ) {n : ℕ} (c : n ≡ threads_in ws) where
       let ek : k ≡ x.thread.purse.tokens = f ∙ tokens-said (thread-of P p h x) g.tokens in
       (λ j. record { work = ew j; tokens = ek j }) ∙ sym q
 
-  pub finds-none : n ≤ i → Finds ws i (record { work = 0; tokens = 0 })
+  pub finds-none : n ≤ i → (P : Program) (p : Pool) → Holds P ws p → empty ≡ purse_at p i
   finds-none l P p h = sym (purse-none p i (omega (arith, pool-counted P p h.words h.valid)))
 
-  module _ (e : Lent) (g : Good e) where
+  module _ (e : Lent) where
     pub endows-purse : {ws' : List ℤ} → i < n → Endowed ws i (purse_of e) ws' → Endows ws i e ws'
     endows-purse l f P p h =
         let x = around p i (omega (arith, pool-counted P p h.words h.valid)) in
         let t = f x.front x.thread x.back (thread-of P p h x) in
         record {
           words = t.held.words ∙ ap words_of (sym (endow-of P p h x (purse_of e)));
-          valid = endow-valid P i (purse_of e) p (good-fits e g) h.valid;
+          valid = endow-valid P i (purse_of e) p (good-fits e) h.valid;
         }
 
     pub endows-none : n ≤ i → Endows ws i e ws
@@ -87,7 +88,7 @@ module _ (ws : List ℤ) (i : ℕ) {n : ℕ} (c : n ≡ threads_in ws) where
         let m : length p ≤ i = omega (arith, pool-counted P p h.words h.valid) in
         record {
           words = h.words ∙ ap words_of (sym (endow-none (purse_of e) p i m));
-          valid = endow-valid P i (purse_of e) p (good-fits e g) h.valid;
+          valid = endow-valid P i (purse_of e) p (good-fits e) h.valid;
         }
 
 -- what a step earns, and what a promotion shares

@@ -1,17 +1,13 @@
 -- The code's purse as the model's, and what the code does to the purses of a pool: for every valid pool that the words hold.
-use Rattle.std.specs.Prelude.{ℕ, ◌≤◌, ◌≡◌, true, cond, List, eqb, ℤ}
+use Rattle.std.specs.Prelude.{ℕ, ◌≡◌, true, cond, List, eqb, ℤ}
 use Rattle.model.specs.Numbers as No
 use Rattle.model.specs.Syntax.{Program}
-use Rattle.model.specs.Pool.{Purse, Pool, most_work, most_tokens, words_of, is_pool}
+use Rattle.model.specs.Pool.{Purse, Pool, words_of, is_pool}
 use Rattle.tokens.specs.Purses.{arrive, worked, purse_at, endow, shared}
-use Rattle.beats.specs.declared.Purse.{Purse as Lent}
+use Rattle.beats.specs.declared.purse.Purse.{Purse as Lent}
 
 abbrev pub purse_of : Lent → Purse
 purse_of e = record { work = e.work; tokens = e.tokens }
-
--- a purse within the limits
-abbrev pub Good : Lent → Type 0
-Good e = (e.work ≤ most_work) × (e.tokens ≤ most_tokens)
 
 -- the words are those of a valid pool of the program
 pub record Holds (P : Program) (ws : List ℤ) (p : Pool) : Type 0 where

@@ -15,8 +15,8 @@ use Rattle.model.proofs.Facts.{eq-eqb, ne_eqb}
 use Rattle.code.specs.Bytes.{byte_at, past, operands}
 use Rattle.code.specs.Code.{run, atom_of, atom_at, atom_end, expression_of, second_at, expression_at, expression_end}
 use Rattle.code.proofs.Ends.{atom-end-value, atom-end-temporary, end-two, end-one, run-goes, run_none}
-use Rattle.bound.specs.declared.Seen.{Seen}
-use Rattle.bound.specs.declared.Seen.TheVariants.{Bound, Unbound}
+use Rattle.std.specs.Prelude.{Option, Some, None}
+use Rattle.std.specs.Bool.{then_some}
 use Rattle.bound.specs.Walks.{holds, binding, seen_as}
 
 -- of a temporary, the sets are asked as they are
@@ -44,11 +44,11 @@ all_append f (x ∷ xs) ys = go (f x) (all_append f xs ys)
     go false i = refl
 
 -- what an answer says
-pub seen-in : {r : Seen} {k : ℕ} (b : Bool) (e : ℕ) → r ≡ seen_as b e → r ≡ Bound k → (b ≡ true) × (k ≡ e)
+pub seen-in : {r : Option ℕ} {k : ℕ} (b : Bool) (e : ℕ) → r ≡ seen_as b e → r ≡ Some k → (b ≡ true) × (k ≡ e)
 seen-in true e h z = (refl, cc)
 seen-in false e h z = let y : ◌≡◌ {A = ℕ} 0 1 = cc in absurd (omega arith)
 
-pub seen-out : {r : Seen} (b : Bool) (e : ℕ) → r ≡ seen_as b e → r ≡ Unbound → b ≡ false
+pub seen-out : {r : Option ℕ} (b : Bool) (e : ℕ) → r ≡ seen_as b e → r ≡ None → b ≡ false
 seen-out true e h z = let y : ◌≡◌ {A = ℕ} 0 1 = cc in absurd (omega arith)
 seen-out false e h z = refl
 
@@ -67,7 +67,7 @@ unfolding atom_at
 temporary-uses s at h = by_kind (byte_at s at) _ (byte_at s (past at 1)) h
 
 module _ (s : List ℕ) (at Γ : ℕ) {b f : ℕ} (q : f ≡ past at 1) (e : b ≡ byte_at s at) where
-  pub atom-free : {r : ℕ} → b ≡ 0 → r ≡ past f 4 → Bound r ≡ seen_as (all (holds Γ) (uses_atom (atom_at s at))) (atom_end s at)
+  pub atom-free : {r : ℕ} → b ≡ 0 → r ≡ past f 4 → Some r ≡ seen_as (all (holds Γ) (uses_atom (atom_at s at))) (atom_end s at)
   unfolding all
   atom-free h d = rw (value-uses s at (sym e ∙ h), ← atom-end-value s at q e h d)
 
@@ -76,11 +76,12 @@ module _ (s : List ℕ) (at Γ : ℕ) {b f : ℕ} (q : f ≡ past at 1) (e : b �
     unfolding all
     single = rw (temporary-uses s at (λ w. z (e ∙ w)), ← q, ← y, ← h)
 
-    pub atom-in : {r : ℕ} → t ≡ true → r ≡ past f 1 → Bound r ≡ seen_as (all (holds Γ) (uses_atom (atom_at s at))) (atom_end s at)
-    atom-in w d = rw (single, w, ← atom-end-temporary s at q e z d)
-
-    pub atom-out : t ≡ false → Unbound ≡ seen_as (all (holds Γ) (uses_atom (atom_at s at))) (atom_end s at)
-    atom-out w = rw (single, w)
+    pub atom_as : {r : ℕ} → r ≡ past f 1 → then_some t r ≡ seen_as (all (holds Γ) (uses_atom (atom_at s at))) (atom_end s at)
+    atom_as {r} d = rw (single, ← atom-end-temporary s at q e z d) (go t)
+      where
+        go : (t : Bool) → then_some t r ≡ seen_as (t && true) r
+        go true = refl
+        go false = refl
 
 -- expressions: by their number of operands
 pub uses-one : (k : ℕ) (m n : Atom) → (operands k ≡ 2 → ⊥) → uses (expression_of k m n) ≡ uses_atom m
@@ -98,7 +99,7 @@ uses-two (suc (suc zero)) m n h = refl
 uses-two (suc (suc (suc k))) m n h = refl
 
 -- what the first atom says, and then the second
-module _ (s : List ℕ) (at Γ : ℕ) {f : ℕ} {r : Seen} (q : f ≡ past at 1)
+module _ (s : List ℕ) (at Γ : ℕ) {f : ℕ} {r : Option ℕ} (q : f ≡ past at 1)
     (a : r ≡ seen_as (all (holds Γ) (uses_atom (atom_at s f))) (atom_end s f)) where
   one_of : (operands (byte_at s at) ≡ 2 → ⊥) → uses (expression_at s at) ≡ uses_atom (atom_at s f)
   unfolding expression_at
@@ -111,23 +112,23 @@ module _ (s : List ℕ) (at Γ : ℕ) {f : ℕ} {r : Seen} (q : f ≡ past at 1)
   abbrev inside : Bool
   inside = all (holds Γ) (uses_atom (atom_at s f))
 
-  pub expression-out : r ≡ Unbound → Unbound ≡ seen_as (all (holds Γ) (uses (expression_at s at))) (expression_end s at)
+  pub expression-out : r ≡ None → None ≡ seen_as (all (holds Γ) (uses (expression_at s at))) (expression_end s at)
   expression-out z = go (ℕ_discrete (operands (byte_at s at)) 2)
     where
       lacks : all (holds Γ) (uses_atom (atom_at s f)) ≡ false
       lacks = seen-out inside (atom_end s f) a z
 
-      go : Dec (operands (byte_at s at) ≡ 2) → Unbound ≡ seen_as (all (holds Γ) (uses (expression_at s at))) (expression_end s at)
+      go : Dec (operands (byte_at s at) ≡ 2) → None ≡ seen_as (all (holds Γ) (uses (expression_at s at))) (expression_end s at)
       go (yes h) = rw (two-of h, all_append, lacks)
       go (no h) = rw (one_of h, lacks)
 
-  module _ {k b o : ℕ} (z : r ≡ Bound k) (e : b ≡ byte_at s at) (d : o ≡ operands b) where
-    pub expression-one : (o ≡ 2 → ⊥) → Bound k ≡ seen_as (all (holds Γ) (uses (expression_at s at))) (expression_end s at)
+  module _ {k b o : ℕ} (z : r ≡ Some k) (e : b ≡ byte_at s at) (d : o ≡ operands b) where
+    pub expression-one : (o ≡ 2 → ⊥) → Some k ≡ seen_as (all (holds Γ) (uses (expression_at s at))) (expression_end s at)
     expression-one h =
         let (t, j) = seen-in inside (atom_end s f) a z in
         rw (one_of (λ w. h (d ∙ ap operands e ∙ w)), t, ← end-one s at q j e d h)
 
-    pub expression-two : {t : Seen} → o ≡ 2 → t ≡ seen_as (all (holds Γ) (uses_atom (atom_at s k))) (atom_end s k)
+    pub expression-two : {t : Option ℕ} → o ≡ 2 → t ≡ seen_as (all (holds Γ) (uses_atom (atom_at s k))) (atom_end s k)
         → t ≡ seen_as (all (holds Γ) (uses (expression_at s at))) (expression_end s at)
     expression-two h w =
         let (t, j) = seen-in inside (atom_end s f) a z in
@@ -145,9 +146,9 @@ module _ (s : List ℕ) (Γ k n : ℕ) {v : Bool} (i : v ≡ all (holds Γ) (run
     unfolding all
     all-out z = sym (i ∙ rw (run-goes s k n h, ← e, ← d, z))
 
-    pub all_in : {j : ℕ} → b ≡ true → j ≡ past k 1 → v ≡ all (holds Γ) (run s j (n - 1))
+    pub all_in : {j m : ℕ} → b ≡ true → j ≡ past k 1 → m ≡ n - 1 → v ≡ all (holds Γ) (run s j m)
     unfolding all
-    all_in z q = i ∙ rw (run-goes s k n h, ← e, ← d, z, q)
+    all_in z q l = i ∙ rw (run-goes s k n h, ← e, ← d, z, q, l)
 
 -- names side by side
 module _ (s : List ℕ) (i j n : ℕ) {v : Bool} (w : v ≡ equal (run s i n) (run s j n)) where
@@ -160,6 +161,6 @@ module _ (s : List ℕ) (i j n : ℕ) {v : Bool} (w : v ≡ equal (run s i n) (r
     unfolding equal
     same-differ z = sym (w ∙ rw (run-goes s i n h, run-goes s j n h, ← e, ← d, ne_eqb x y z))
 
-    pub same-on : {a b : ℕ} → x ≡ y → a ≡ past i 1 → b ≡ past j 1 → v ≡ equal (run s a (n - 1)) (run s b (n - 1))
+    pub same-on : {a b m : ℕ} → x ≡ y → a ≡ past i 1 → b ≡ past j 1 → m ≡ n - 1 → v ≡ equal (run s a m) (run s b m)
     unfolding equal
-    same-on z p q = w ∙ rw (run-goes s i n h, run-goes s j n h, ← e, ← d, eq-eqb x y z, p, q)
+    same-on z p q l = w ∙ rw (run-goes s i n h, run-goes s j n h, ← e, ← d, eq-eqb x y z, p, q, l)

@@ -12,40 +12,22 @@ ghost use Rattle.bound.specs.Walks.{holds, binding, seen_as, fresh_as, statement
 
 use answers::No;
 
-// What a walk over the temporaries that something uses finds: all are in the set, with the offset behind; or one is not.
-#[derive(Clone, Copy)]
-pub enum Seen {
-    Bound(usize),
-    Unbound,
-}
-
-// What a walk that binds temporaries finds: the set afterwards with the offset behind, or the number of a fault.
-#[derive(Clone, Copy)]
-pub enum Walk {
-    Done(u16, usize),
-    Fault(u8),
-}
-
-// A set is asked for a number's last four bits, so there is nothing to test: all that a table names are below 16.
-#[derive(Clone, Copy)]
-pub struct Set {}
-
-impl Set {
-    pub const BITS: u8 = 16;
-}
+// How many temporaries there are. A set is asked for a number's last four bits, so there is nothing to test: all that a table names
+// are below it.
+pub const TEMPORARIES: u8 = 16;
 
 // Is x in the set?
 pub fn holds(set: u16, x: u8) -> bool
     ensures { result ≡ holds set x }
 {
-    (set >> (x % Set::BITS)) % 2 == 1
+    (set >> (x % TEMPORARIES)) % 2 == 1
 }
 
 // The set with x.
 pub fn bind(set: u16, x: u8) -> u16
     ensures { result ≡ binding set x }
 {
-    set | (1 << (x % Set::BITS))
+    set | (1 << (x % TEMPORARIES))
 }
 
 // Is the set a part of the other?
@@ -55,34 +37,26 @@ pub fn part(set: u16, other: u16) -> bool
     set & other == set
 }
 
-// An atom: a value, or 1 and a temporary.
-fn atom(s: &[u8], at: usize, set: u16) -> Seen
+// An atom: a value, or 1 and a temporary. Where it ends, if what it uses is in the set.
+fn atom(s: &[u8], at: usize, set: u16) -> Option<usize>
     ensures { result ≡ seen_as (all (holds set) (uses_atom (atom_at s.now at))) (atom_end s.now at) }
 {
     let first = code::after(at, 1);
     if code::byte(s, at) == 0 {
-        return Seen::Bound(code::after(first, 4));
+        return Some(code::after(first, 4));
     }
-    if holds(set, code::byte(s, first)) {
-        Seen::Bound(code::after(first, 1))
-    } else {
-        Seen::Unbound
-    }
+    holds(set, code::byte(s, first)).then_some(code::after(first, 1))
 }
 
 // An expression: of one atom, or of two.
-pub fn expression(s: &[u8], at: usize, set: u16) -> Seen
+pub fn expression(s: &[u8], at: usize, set: u16) -> Option<usize>
     ensures { result ≡ seen_as (all (holds set) (uses (expression_at s.now at))) (expression_end s.now at) }
 {
-    match atom(s, code::after(at, 1), set) {
-        Seen::Unbound => Seen::Unbound,
-        Seen::Bound(k) => {
-            if code::operands(code::byte(s, at) as usize) == 2 {
-                atom(s, k, set)
-            } else {
-                Seen::Bound(k)
-            }
-        }
+    let second = atom(s, code::after(at, 1), set)?;
+    if code::operands(code::byte(s, at) as usize) == 2 {
+        atom(s, second, set)
+    } else {
+        Some(second)
     }
 }
 
@@ -91,14 +65,11 @@ fn temporaries(s: &[u8], at: usize, n: u8, set: u16) -> bool
     ensures { result ≡ all (holds set) (run s.now at n) }
 {
     let mut k = at;
-    let mut left = n;
-    while 0 < left {
-        if holds(set, code::byte(s, k)) {
-            k = code::after(k, 1);
-            left -= 1;
-        } else {
+    'names: for _ in 0..n {
+        if !holds(set, code::byte(s, k)) {
             return false;
         }
+        k = code::after(k, 1);
     }
     true
 }
@@ -110,60 +81,46 @@ pub fn arguments(s: &[u8], at: usize, set: u16) -> bool
     temporaries(s, code::after(at, 1), code::count(s, at), set)
 }
 
-// n parameters, each new.
-pub fn fresh(s: &[u8], at: usize, n: u8, set: u16) -> Walk
+// n parameters, each new: the set with them, and the offset behind; or the number of a fault.
+pub fn fresh(s: &[u8], at: usize, n: u8, set: u16) -> Result<(u16, usize), No>
     ensures { result ≡ fresh_as set (run s.now at n) (past at n) }
 {
     let mut k = at;
-    let mut left = n;
     let mut bound = set;
-    while 0 < left {
+    'names: for _ in 0..n {
         let x = code::byte(s, k);
         if holds(bound, x) {
-            return Walk::Fault(No::TWICE);
+            return Err(No::TWICE);
         }
         bound = bind(bound, x);
         k = code::after(k, 1);
-        left -= 1;
     }
-    Walk::Done(bound, k)
+    Ok((bound, k))
 }
 
 // A statement: its operands, and then its target.
-fn statement(s: &[u8], at: usize, set: u16) -> Walk
+fn statement(s: &[u8], at: usize, set: u16) -> Result<(u16, usize), No>
     ensures { result ≡ statements_as set (statements_at s.now at 1) (statements_end s.now at 1) }
 {
     let x = code::byte(s, at);
-    match expression(s, code::after(at, 1), set) {
-        Seen::Unbound => Walk::Fault(No::UNBOUND),
-        Seen::Bound(k) => {
-            if holds(set, x) {
-                Walk::Fault(No::TWICE)
-            } else {
-                Walk::Done(bind(set, x), k)
-            }
-        }
+    let k = expression(s, code::after(at, 1), set).ok_or(No::UNBOUND)?;
+    if holds(set, x) {
+        Err(No::TWICE)
+    } else {
+        Ok((bind(set, x), k))
     }
 }
 
 // n statements.
-pub fn statements(s: &[u8], at: usize, n: u8, set: u16) -> Walk
+pub fn statements(s: &[u8], at: usize, n: u8, set: u16) -> Result<(u16, usize), No>
     ensures { result ≡ statements_as set (statements_at s.now at n) (statements_end s.now at n) }
 {
     let mut k = at;
-    let mut left = n;
     let mut bound = set;
-    while 0 < left {
-        match statement(s, k, bound) {
-            Walk::Fault(m) => return Walk::Fault(m),
-            Walk::Done(b, j) => {
-                bound = b;
-                k = j;
-                left -= 1;
-            }
-        }
+    'lines: for _ in 0..n {
+        (bound, k) = statement(s, k, bound)?;
     }
-    Walk::Done(bound, k)
+    Ok((bound, k))
 }
 
 // Are the n names at a those at b?
@@ -172,14 +129,12 @@ pub fn same(s: &[u8], a: usize, b: usize, n: u8) -> bool
 {
     let mut i = a;
     let mut j = b;
-    let mut left = n;
-    while 0 < left {
+    'names: for _ in 0..n {
         if code::byte(s, i) != code::byte(s, j) {
             return false;
         }
         i = code::after(i, 1);
         j = code::after(j, 1);
-        left -= 1;
     }
     true
 }

@@ -1,15 +1,10 @@
--- How many operands a kind has, as the entries of the table say.
-use Rattle.std.proofs.Common.{◌≡◌, ℕ, zero, suc, ◌<◌, ◌≤◌, refl, arith}
+-- How many operands a kind has, as the entry of the table says.
+use Rattle.std.proofs.Common.{◌≡◌, ℕ, zero, suc, min, [], ◌∷◌, get_or, refl, arith}
 use Rattle.code.specs.Bytes.{operands}
 
-pub one : (kind : ℕ) → kind < 2 → 1 ≡ operands kind
+pub entry : (kind : ℕ) {n : ℕ} → n ≡ min kind 3 → get_or (1 ∷ 1 ∷ 2 ∷ 2 ∷ []) n 0 ≡ operands kind
 unfolding operands
-one zero h = refl
-one (suc zero) h = refl
-one (suc (suc kind)) h = absurd (omega arith)
-
-pub two : (kind : ℕ) → 2 ≤ kind → 2 ≡ operands kind
-unfolding operands
-two zero h = absurd (omega arith)
-two (suc zero) h = absurd (omega arith)
-two (suc (suc kind)) h = refl
+entry zero e = rw e refl
+entry (suc zero) e = rw e refl
+entry (suc (suc zero)) e = rw e refl
+entry (suc (suc (suc kind))) {n} e = let f : n ≡ 3 = omega (arith, e) in rw f refl

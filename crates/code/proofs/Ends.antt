@@ -1,5 +1,5 @@
 -- Where things end, as the code works it out: each law has the shape of one of its returns.
-use Rattle.std.proofs.Common.{◌≡◌, ℕ, zero, suc, ◌-◌, ◌<◌, ◌≤◌, min, List, [], ◌∷◌, length, ℤ, sym, refl, ap, ◌∙◌, not-suc-le-zero, arith, to_z-of_z, w32, SFits, to_z, of_z, eq-eqb, ne_eqb}
+use Rattle.std.proofs.Common.{◌≡◌, ℕ, zero, suc, ◌+◌, ◌-◌, ◌<◌, ◌≤◌, min, List, [], ◌∷◌, length, ℤ, sym, refl, ap, ◌∙◌, not-suc-le-zero, arith, to_z-of_z, w32, SFits, to_z, of_z, eq-eqb, ne_eqb}
 use mathlib.Core.Option.{some}
 use native.Mathlib.Nat.{min-le_right}
 use Rattle.code.specs.Bytes.{byte_at, past, operands}
@@ -48,6 +48,14 @@ pub statements-none : (s : List ℕ) (at n : ℕ) → n ≤ 0 → statements_end
 unfolding statements_end
 statements-none s at zero h = refl
 statements-none s at (suc n) h = absurd (not-suc-le-zero h)
+
+-- statements: one more passed
+pub statements-more : (s : List ℕ) (at n : ℕ) → statements_end s at (n + 1) ≡ statement_end s (statements_end s at n)
+unfolding statements_end
+statements-more s at zero = refl
+statements-more s at (suc n) =
+    let e : suc n + 1 ≡ suc (n + 1) = omega arith in
+    rw e (statements-more s (statement_end s at) n)
 
 -- a run: its first byte passed; none left
 pub run-goes : (s : List ℕ) (at n : ℕ) → 0 < n → run s at n ≡ byte_at s at ∷ run s (past at 1) (n - 1)

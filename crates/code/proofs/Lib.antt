@@ -4,3 +4,4 @@ pub mod Counts
 pub mod Ends
 pub mod Decoding
 pub mod Targets
+pub mod KindLaws

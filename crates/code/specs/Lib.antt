@@ -1,2 +1,3 @@
 pub mod Bytes
 pub mod Code
+pub mod Kinds

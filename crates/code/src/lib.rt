@@ -8,6 +8,7 @@ ghost use Rattle.model.specs.Values.{signed};
 ghost use Rattle.code.specs.Bytes.{byte_at, past, half_at, word_at, operands};
 ghost use Rattle.code.specs.Code.{most, count_at, list_end, atom_end, expression_end, statement_end, statements_end, opening_at};
 ghost use Rattle.code.specs.Code.{head_end, spawn_end, transfer_end_of, transfer_end};
+ghost use Rattle.code.specs.Kinds.{number_of};
 
 // Where a table has its number of functions, behind its length and its version; the version, and how long a table may be; and both of
 // a brief table, which has the heads of its blocks without scope and nesting.
@@ -30,32 +31,28 @@ impl Table {
 pub fn byte(s: &[u8], at: usize) -> u8
     ensures { result ≡ byte_at s.now at }
 {
-    if at < s.len() { s[at] } else { 0 }
+    s.get(at).copied().unwrap_or(0)
 }
 
 // The byte i behind an offset.
 pub fn item(s: &[u8], at: usize, i: u8) -> u8
     ensures { result ≡ byte_at s.now (at + i) }
 {
-    if at < s.len() {
-        byte(s, at + (i as usize))
-    } else {
-        0
-    }
+    byte(s, at.saturating_add(usize::from(i)))
 }
 
 // How many bytes there are from an offset on.
 pub fn left(s: &[u8], at: usize) -> usize
     ensures { result ≡ length s.now - at }
 {
-    if at < s.len() { s.len() - at } else { 0 }
+    s.len().saturating_sub(at)
 }
 
 // The offset n bytes on: no test, since every offset has one. Within a table it is the sum.
 pub fn after(at: usize, n: usize) -> usize
     ensures { result ≡ past at n }
 {
-    std::num::wrapping_add_usize(at, n)
+    at.wrapping_add(n)
 }
 
 // The numbers of two and of four bytes.
@@ -79,12 +76,7 @@ const OPERANDS: [usize; 4] = [1, 1, 2, 2];
 pub fn operands(kind: usize) -> usize
     ensures { result ≡ operands kind }
 {
-    match kind {
-        0 => OPERANDS[0],
-        1 => OPERANDS[1],
-        2 => OPERANDS[2],
-        _ => OPERANDS[3],
-    }
+    OPERANDS[kind.min(OPERANDS.len() - 1)]
 }
 
 // An argument list has no more temporaries than this.
@@ -99,11 +91,7 @@ impl Arguments {
 pub fn few(n: u8) -> u8
     ensures { result ≡ min n most }
 {
-    if (n as usize) < Arguments::MOST {
-        n
-    } else {
-        Arguments::MOST as u8
-    }
+    n.min(Arguments::MOST as u8)
 }
 
 // How many temporaries an argument list has.
@@ -163,17 +151,15 @@ pub fn statements_end(s: &[u8], at: usize, n: u8) -> usize
     ensures { result ≡ statements_end s.now at n }
 {
     let mut end = at;
-    let mut left = n;
-    while 0 < left {
+    'statements: for _ in 0..n {
         end = statement_end(s, end);
-        left -= 1;
     }
     end
 }
 
 // A block's head as code has it: the number of its parameters and their offset, its scope, the number of its nesting's names and
 // their offset, and the offset behind.
-#[derive(Clone, Copy)]
+#[derive(Clone, Copy, PartialEq, Eq, Debug)]
 pub struct Opening {
     pub count: u8,
     pub parameters: usize,
@@ -195,10 +181,10 @@ pub fn head(s: &[u8], at: usize) -> Opening
     let nesting = after(next, 1);
     Opening {
         count: few(n),
-        parameters: parameters,
-        scope: scope,
+        parameters,
+        scope,
         depth: few(d),
-        nesting: nesting,
+        nesting,
         behind: after(nesting, d as usize),
     }
 }
@@ -217,21 +203,46 @@ pub fn spawn_end(s: &[u8], at: usize) -> usize
     list_end(s, after(at, 1))
 }
 
+// The kinds of transfers, in the order of their numbers.
+#[derive(Clone, Copy, PartialEq, Eq, Debug)]
+pub enum Kind {
+    Goto,
+    If,
+    Call,
+    Return,
+    Spork,
+    Spoin,
+}
+
+// The kind of the transfer at an offset. In a table it is 5 at most.
+pub fn kind_at(s: &[u8], at: usize) -> Kind
+    ensures { number_of result ≡ min (byte_at s.now at) 5 }
+{
+    match byte(s, at) {
+        0 => Kind::Goto,
+        1 => Kind::If,
+        2 => Kind::Call,
+        3 => Kind::Return,
+        4 => Kind::Spork,
+        _ => Kind::Spoin,
+    }
+}
+
 // Where what follows a transfer's kind ends, and where a transfer ends.
-fn kind_end(s: &[u8], at: usize, kind: u8) -> usize
-    ensures { result ≡ transfer_end_of kind s.now at }
+fn kind_end(s: &[u8], at: usize, kind: Kind) -> usize
+    ensures { result ≡ transfer_end_of (number_of kind) s.now at }
 {
     match kind {
-        0 => spawn_end(s, at),
-        1 => after(after(expression_end(s, at), 1), 1),
-        2 => after(spawn_end(s, at), 1),
-        3 => list_end(s, at),
-        _ => after(after(at, 1), 1),
+        Kind::Goto => spawn_end(s, at),
+        Kind::If => after(after(expression_end(s, at), 1), 1),
+        Kind::Call => after(spawn_end(s, at), 1),
+        Kind::Return => list_end(s, at),
+        Kind::Spork | Kind::Spoin => after(after(at, 1), 1),
     }
 }
 
 pub fn transfer_end(s: &[u8], at: usize) -> usize
     ensures { result ≡ transfer_end s.now at }
 {
-    kind_end(s, after(at, 1), byte(s, at))
+    kind_end(s, after(at, 1), kind_at(s, at))
 }

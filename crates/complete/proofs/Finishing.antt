@@ -3,6 +3,7 @@ use Prim.Native.Nat.{ℕ, ◌+◌, ◌≤◌}
 use mathlib.Core.Path.{◌≡◌, refl, sym, ◌∙◌, ap, ap₂}
 use mathlib.Core.List.{List, ◌++◌, append-nil}
 use native.Mathlib.Omega.{arith}
+use Rattle.std.specs.Prelude.{Result, Ok, Err}
 use lib.ListN.{length, drop, replicate, length-replicate, drop_of_length-le}
 use lib.Seq.{sets, sets-eq, ext_get_or, drop-append-add, drop-drop}
 use Rattle.model.specs.Answers.{Refusal, Answer}
@@ -10,26 +11,14 @@ use Rattle.model.specs.Syntax.{Program}
 use Rattle.model.proofs.Facts.{refused-given, same_at}
 use Rattle.model.proofs.Guarantees.{brief-reads, sized-is}
 use Rattle.answers.specs.declared.Refusal as Why
-use Rattle.puts.specs.Puts.{Puts}
 use Rattle.transfers.specs.Transfers as Transfers
 use Rattle.transfers.specs.Transfers.{Finds}
 use Rattle.inference.specs.Complete as Model
 use Rattle.inference.specs.Complete.{scratch_words, output_bytes, cleared}
 use Rattle.scopings.specs.Words.{len}
 use Rattle.scopings.specs.Changes.{Cleared}
-use Rattle.answers.specs.declared.Written.{Written}
-use Rattle.answers.specs.declared.Written.TheVariants as written
 use Rattle.answers.specs.Answers.{written_of}
 use Rattle.complete.specs.Writes.{Given, blank, Tells, InfersAll, handed, HandsOver, Writes, Finishes}
-
--- a refusal leaves the output, and a table goes there
-module _ (r : Written) (buffer out : List ℕ) where
-  pub hand-none : {why : Why.Refusal} → r ≡ written.Refused why → HandsOver r buffer out (written.Refused why) out
-  hand-none e = record { answer = sym e; after = λ l. rw e refl }
-
-  pub hand-table : {n k : ℕ} {out' : List ℕ} → r ≡ written.Bytes n → Puts out 0 buffer k out'
-      → HandsOver r buffer out (written.Bytes n) out'
-  hand-table e p = record { answer = sym e; after = λ l. (p.is (omega arith) l).1 ∙ rw e refl }
 
 -- all bytes of an output
 all_set : (out xs : List ℕ) → length xs ≡ length out → sets out 0 xs ≡ xs
@@ -52,26 +41,26 @@ words_left words used part part' u l c =
     ap₂ {C = List ℕ} ◌++◌ (clear-is part part' scratch_words c l) rest
 
 -- what is told, and handed over
-module _ {r q : Written} (buffer out out' words words' : List ℕ) (h : HandsOver r buffer out q out') (o : length out ≡ output_bytes)
-    (w : words' ≡ cleared words) where
+module _ {r q : Result ℕ Why.Refusal} (buffer out out' words words' : List ℕ) (h : HandsOver r buffer out q out')
+    (o : length out ≡ output_bytes) (w : words' ≡ cleared words) where
   finishes : (a : Answer Program) → Tells a r buffer → Writes (Model.finish out words a) q out' words'
   unfolding Model.finish
   finishes (Answer.given Q) (e, b, l) =
       record { answer = ap written_of h.answer ∙ e; out = h.after (omega arith) ∙ go r e ∙ b; words = w }
     where
-      go : (r : Written) {n : ℕ} → written_of r ≡ Answer.given n → handed r buffer out ≡ buffer
-      go (written.Bytes n) e = all_set out buffer (l ∙ sym o)
-      go (written.Refused why) e = refused-given e
+      go : (r : Result ℕ Why.Refusal) {n : ℕ} → written_of r ≡ Answer.given n → handed r buffer out ≡ buffer
+      go (Ok n) e = all_set out buffer (l ∙ sym o)
+      go (Err why) e = refused-given e
   finishes (Answer.refused x) e =
       record { answer = ap written_of h.answer ∙ e; out = h.after (omega arith) ∙ go r e; words = w }
     where
-      go : (r : Written) {x : Refusal} → written_of r ≡ Answer.refused x → handed r buffer out ≡ out
-      go (written.Bytes n) e = refused-given (sym e)
-      go (written.Refused why) e = refl
+      go : (r : Result ℕ Why.Refusal) {x : Refusal} → written_of r ≡ Answer.refused x → handed r buffer out ≡ out
+      go (Ok n) e = refused-given (sym e)
+      go (Err why) e = refl
 
 module _ (s places out words : List ℕ) {fresh transfers zeros : List ℕ} (b : fresh ≡ Transfers.nowhere) (f : Finds s places fresh transfers)
     (z : zeros ≡ blank) where
-  pub finish-put : (lent used part part' buffer : List ℕ) {r q : Written} {out' : List ℕ} → length lent ≡ len
+  pub finish-put : (lent used part part' buffer : List ℕ) {r q : Result ℕ Why.Refusal} {out' : List ℕ} → length lent ≡ len
       → InfersAll s places transfers lent zeros r buffer → length used ≡ len → length part ≡ scratch_words → Cleared part part'
       → HandsOver r buffer out q out' → length out ≡ output_bytes
       → Finishes s places out words q out' (part' ++ drop scratch_words (used ++ drop len words))

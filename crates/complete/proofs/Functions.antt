@@ -5,6 +5,7 @@ use mathlib.Core.Option
 use mathlib.Core.Option.{none}
 use mathlib.Core.List.{List, ◌++◌, map}
 use native.Mathlib.Omega.{arith}
+use Rattle.std.specs.Prelude.{Some, None}
 use lib.ListN.{length, get_or, get_elem?, length-map}
 use Rattle.model.specs.Lists.{concat}
 use Rattle.model.specs.Syntax.{Function, Program}
@@ -12,9 +13,7 @@ use Rattle.model.specs.Write as Write
 use Rattle.model.proofs.Facts.{map_at}
 use Rattle.model.proofs.Writing.{HeldFunction, law-bare, law-function_by}
 use Rattle.code.specs.Bytes.{past}
-use Rattle.places.specs.declared.Place.{Place}
-use Rattle.places.specs.declared.Place.TheVariants.{At, Nowhere}
-use Rattle.places.specs.Places.{FindsFunction}
+use Rattle.places.specs.Places.{Place, FindsFunction}
 use Rattle.puts.specs.Puts.{Puts, stretch}
 use Rattle.puts.proofs.Laws as Puts-laws
 use Rattle.puts.proofs.Laws.{then, same}
@@ -31,7 +30,7 @@ use Rattle.infer.specs.Infers.{Infers}
 use Rattle.complete.specs.Writes.{scoping_in, PutsIn, spawns_of, blocks_of, Given, PutsFunction, PutsFunctions}
 use Rattle.complete.proofs.Putting.{counts_of, counts-put}
 use Rattle.inference.proofs.Filled.{filled-agrees}
-use Rattle.complete.proofs.Lists.{Rest, rest-first, rest-next, rest_end}
+use Rattle.complete.proofs.Lists.{written-at, Rest, rest-next, rest_end}
 
 -- the names of a mark, by its two numbers
 nesting-is : (level names : ℕ) → nesting_of (mark_of level names) ≡ digits (level - 1) names
@@ -81,7 +80,7 @@ unfolding completed
 completed-length P = length-map P completed_function
 
 module _ (s places transfers words : List ℕ) (f : ℕ) {q : Place} (find : FindsFunction places f q) {d : List ℕ} {k : ℕ} where
-  pub function-nowhere : q ≡ Nowhere → PutsFunction s places transfers f words d k k d
+  pub function-nowhere : q ≡ None → PutsFunction s places transfers f words d k k d
   unfolding of
   function-nowhere e =
       record {
@@ -90,7 +89,7 @@ module _ (s places transfers words : List ℕ) (f : ℕ) {q : Place} (find : Fin
             same Puts-laws.none (rw (completed-in P f, z));
       }
 
-  pub function-at : {at to m n r : ℕ} {words' d₁ d₂ d₃ : List ℕ} → q ≡ At at → Infers s places transfers f words words' → to ≡ past at 4
+  pub function-at : {at to m n r : ℕ} {words' d₁ d₂ d₃ : List ℕ} → q ≡ Some at → Infers s places transfers f words words' → to ≡ past at 4
       → Puts d k (stretch s at to) m d₁ → PutsIn s places f spawns_of d₁ m n d₂ → PutsIn s places f (blocks_of words') d₂ n r d₃
       → PutsFunction s places transfers f words d k r d₃
   unfolding of
@@ -107,23 +106,21 @@ module _ (s places transfers words : List ℕ) (f : ℕ) {q : Place} (find : Fin
 
 -- the functions, from number f on
 pub record FunctionsLeft (s places transfers words d : List ℕ) (k : ℕ) (d' : List ℕ) (m f : ℕ) : Type 0 where
-  pub is : (P : Program) → Given s places transfers words P → Rest Write.function (completed P) d k d' m f
+  pub is : (P : Program) → Given s places transfers words P → Rest (map Write.function (completed P)) d k d' m f
 
 module _ (s places transfers words : List ℕ) {d : List ℕ} {k : ℕ} where
-  pub functions-first : FunctionsLeft s places transfers words d k d k 0
-  functions-first = record { is = λ P g. rest-first }
-
   module _ {d' : List ℕ} {m f : ℕ} (t : FunctionsLeft s places transfers words d k d' m f) where
     pub functions-next : {r : ℕ} {words' d'' : List ℕ} → length words' ≡ length words → PutsFunction s places transfers f words' d' m r d''
         → FunctionsLeft s places transfers words d k d'' r (f + 1)
     functions-next e p =
         record {
           is = λ P g.
-              rest-next (t.is P g) (p.is P (record { placed = g.placed; ended = g.ended; long = e ∙ g.long }));
+              rest-next (t.is P g) (rw (written-at Write.function (completed P) f)
+              (p.is P (record { placed = g.placed; ended = g.ended; long = e ∙ g.long })));
         }
 
     pub functions-end : 16 ≤ f → PutsFunctions s places transfers words d k m d'
     functions-end h =
         record {
-          is = λ P g. rest_end (t.is P g) (omega (arith, completed-length P, g.placed.limits.few));
+          is = λ P g. rest_end (t.is P g) (omega (arith, length-map (completed P) Write.function, completed-length P, g.placed.limits.few));
         }

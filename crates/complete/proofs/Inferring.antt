@@ -3,6 +3,7 @@ use Prim.Native.Nat.{ℕ, ◌-◌}
 use mathlib.Core.Path.{◌≡◌, refl, sym, ◌∙◌, ap}
 use mathlib.Core.List.{List, ◌++◌}
 use native.Mathlib.Omega.{arith}
+use Rattle.std.specs.Prelude.{Result, Ok, Err}
 use lib.ListN.{length, take, drop, replicate, length-append, length-drop, length-replicate}
 use lib.Seq.{take-append_seam}
 use Rattle.model.specs.Answers.{Refusal, Answer, with}
@@ -13,14 +14,11 @@ use Rattle.model.specs.Check.{judge}
 use Rattle.model.specs.Calls.{check}
 use Rattle.model.specs.Write as Write
 use Rattle.model.proofs.Facts.{drop-replicate}
-use Rattle.answers.specs.declared.Answer as Code
-use Rattle.answers.specs.declared.Answer.TheVariants as answer
 use Rattle.answers.specs.declared.Refusal as Why
 use Rattle.answers.specs.Answers.{answer_of, refusal_of}
 use Rattle.inference.specs.Infer.{completed}
 use Rattle.inference.specs.Complete.{reached, impossible, possible, inferred, output_bytes}
 use Rattle.inference.proofs.Held.{completed-holds, completed-check}
-use Rattle.answers.specs.declared.Written.TheVariants as written
 use Rattle.complete.specs.Writes.{Given, PutsTable, ReachesAll, blank, InfersAll}
 
 -- a buffer of zeros
@@ -47,14 +45,15 @@ module _ (P : Program) where
     unfolding inferred with possible
     is-completed h = rw (e, h)
 
-module _ (s places transfers words buffer : List ℕ) {r : Code.Answer} (p : ReachesAll s places transfers words r) where
-  pub tells-unreached : {why : Why.Refusal} → r ≡ answer.Refused why
-      → InfersAll s places transfers words buffer (written.Refused why) buffer
-  tells-unreached e =
-      record { is = λ P d g z. rw (is-unreached P (sym (p.is P g) ∙ ap answer_of e)) refl }
+module _ (s places transfers words buffer : List ℕ) where
+  pub tells-unreached : {why : Why.Refusal} {q : Result ℕ Why.Refusal} → ReachesAll s places transfers words (Err why) → q ≡ Err why
+      → InfersAll s places transfers words buffer q buffer
+  tells-unreached p e =
+      record { is = λ P d g z. rw (is-unreached P (sym (p.is P g)), e) refl }
 
-  module _ {words' buffer' : List ℕ} {n : ℕ} (j : Code.Answer) (e : r ≡ answer.Given) (l : length words' ≡ length words)
-      (t : PutsTable s places transfers words' buffer n buffer') (c : answer_of j ≡ check (take n buffer')) where
+  module _ (p : ReachesAll s places transfers words (Ok tt)) {words' buffer' : List ℕ} {n : ℕ} (j : Result (Unit {0}) Why.Refusal)
+      (l : length words' ≡ length words) (t : PutsTable s places transfers words' buffer n buffer')
+      (c : answer_of j ≡ check (take n buffer')) where
     -- the table is written, and judged
     module _ (P : Program) (d : read_brief s ≡ Answer.given P) (g : Given s places transfers words P) (z : buffer ≡ blank) where
       wrote : (n ≡ length (Write.table (completed P))) ×
@@ -63,7 +62,7 @@ module _ (s places transfers words buffer : List ℕ) {r : Code.Answer} (p : Rea
           t.is P d (record { placed = g.placed; ended = g.ended; long = l ∙ g.long }) (ap length z ∙ blank-length)
 
       all-reached : reached 0 P ≡ Answer.given tt
-      all-reached = sym (p.is P g) ∙ ap answer_of e
+      all-reached = sym (p.is P g)
 
       judges : judge (completed P) ≡ answer_of j
       judges =
@@ -87,15 +86,15 @@ module _ (s places transfers words buffer : List ℕ) {r : Code.Answer} (p : Rea
             (completed-holds s P d).short,
           )
 
-    pub tells-impossible : {why x : Why.Refusal} → j ≡ answer.Refused why → refusal_of x ≡ impossible (refusal_of why)
-        → InfersAll s places transfers words buffer (written.Refused x) buffer'
+    pub tells-impossible : {why x : Why.Refusal} → j ≡ Err why → refusal_of x ≡ impossible (refusal_of why)
+        → InfersAll s places transfers words buffer (Err x) buffer'
     tells-impossible h i =
         record {
           is = λ P d g z.
               rw (is-impossible P (all-reached P d g z) (judges P d g z ∙ ap answer_of h)) (ap Answer.refused i);
         }
 
-    pub tells-completed : j ≡ answer.Given → InfersAll s places transfers words buffer (written.Bytes n) buffer'
+    pub tells-completed : j ≡ Ok tt → InfersAll s places transfers words buffer (Ok n) buffer'
     tells-completed h =
         record {
           is = λ P d g z.

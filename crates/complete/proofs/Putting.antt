@@ -26,23 +26,23 @@ use Rattle.scopings.proofs.Changing.{digits-length}
 use Rattle.complete.specs.Writes.{scoping_in, scoping_bytes, PutsBlock}
 
 -- names: the first and the rest
-digits-goes : (n x : ℕ) → 0 < n → digits n x ≡ x % 256 ∷ digits (n - 1) (x / 256)
+digits-goes : (n i x : ℕ) → i < n → digits (n - i) x ≡ x % 256 ∷ digits (n - (i + 1)) (x / 256)
 unfolding digits
-digits-goes zero x h = absurd (omega arith)
-digits-goes (suc n) x h = let e : suc n - 1 ≡ n = omega arith in rw e
+digits-goes n i x h = let e : n - i ≡ suc (n - (i + 1)) = omega arith in rw e
 
 digits-none : (n x : ℕ) → n ≤ 0 → digits n x ≡ []
 unfolding digits
 digits-none zero x h = refl
 digits-none (suc n) x h = absurd (omega arith)
 
--- names one after another: they go on with the first, and end where none is left
-module _ (d : List ℕ) (k : ℕ) (xs : List ℕ) (rest left : ℕ) {m : ℕ} {d' : List ℕ} (l : Left d k xs d' m (digits left rest)) where
-  pub names-on : {r : ℕ} {d'' : List ℕ} → 0 < left → Puts d' m (rest % 256 ∷ []) r d'' → Left d k xs d'' r (digits (left - 1) (rest / 256))
-  names-on h p = less-left (rest % 256 ∷ []) (digits (left - 1) (rest / 256)) (rw (digits-goes left rest h) at l) p
+-- names one after another, from the one with index i on: they go on with the first, and end where none is left
+module _ (d : List ℕ) (k : ℕ) (xs : List ℕ) (rest count i : ℕ) {m : ℕ} {d' : List ℕ} (l : Left d k xs d' m (digits (count - i) rest)) where
+  pub names-on : {r : ℕ} {d'' : List ℕ} → i < count → Puts d' m (rest % 256 ∷ []) r d''
+      → Left d k xs d'' r (digits (count - (i + 1)) (rest / 256))
+  names-on h p = less-left (rest % 256 ∷ []) (digits (count - (i + 1)) (rest / 256)) (rw (digits-goes count i rest h) at l) p
 
-  pub names-end : left ≤ 0 → Puts d k xs m d'
-  names-end h = none_left (rw (digits-none left rest h) at l)
+  pub names-end : count ≤ i → Puts d k xs m d'
+  names-end h = none_left (rw (digits-none (count - i) rest (omega arith)) at l)
 
 -- a block's scope, the number of its names, and these
 module _ (words : List ℕ) (b : ℕ) {d : List ℕ} {k : ℕ} where

@@ -4,30 +4,26 @@ use mathlib.Core.Path.{◌≡◌, refl, sym, ◌∙◌, ap, subst}
 use mathlib.Core.Option.{Option, none, some}
 use mathlib.Core.List.{List}
 use native.Mathlib.Omega.{arith}
+use Rattle.std.specs.Prelude.{Option as Maybe, Some, None, Result, Ok, Err}
 use lib.ListN.{length, get_elem?, drop, drop_of_length-le}
 use Rattle.model.specs.Numbers as No
 use Rattle.model.specs.Answers.{Refusal, Answer}
 use Rattle.model.specs.Syntax.{Function, Program}
 use Rattle.model.proofs.Facts.{refused-given, at-past, drop-some, drop-none}
-use Rattle.answers.specs.declared.Answer as Code
-use Rattle.answers.specs.declared.Answer.TheVariants as answer
+use Rattle.answers.specs.declared.No as Code
 use Rattle.answers.specs.declared.Refusal as Why
 use Rattle.answers.specs.declared.Refusal.TheVariants.{Fault}
 use Rattle.answers.specs.Answers.{answer_of}
-use Rattle.places.specs.declared.Place.{Place}
-use Rattle.places.specs.declared.Place.TheVariants.{At, Nowhere}
-use Rattle.places.specs.Places.{FindsFunction}
+use Rattle.places.specs.Places.{Place, FindsFunction}
 use Rattle.inference.specs.Infer.{marks}
 use Rattle.inference.specs.Complete.{unmarked, reached_or, reached}
-use Rattle.infer.specs.declared.Lowest.{Lowest}
-use Rattle.infer.specs.declared.Lowest.TheVariants as lowest
 use Rattle.infer.specs.Infers as Infers
 use Rattle.infer.specs.Infers.{lowest_of}
 use Rattle.complete.specs.Writes.{Given, reached_one, ReachesOne, ReachesAll}
 
 -- one function: it is not there, all its blocks are reached, or one is not
 module _ (s places transfers words : List ℕ) (f : ℕ) {q : Place} (find : FindsFunction places f q) where
-  pub reach-nowhere : q ≡ Nowhere → ReachesOne s places transfers f words answer.Given
+  pub reach-nowhere : q ≡ None → ReachesOne s places transfers f words (Ok tt)
   unfolding reached_one
   reach-nowhere e =
       record {
@@ -36,8 +32,9 @@ module _ (s places transfers words : List ℕ) (f : ℕ) {q : Place} (find : Fin
             rw z;
       }
 
-  module _ {at : ℕ} {words' : List ℕ} {l : Lowest} (e : q ≡ At at) (p : Infers.Reaches s places transfers f words l words') where
-    told : {r : Code.Answer} → answer_of r ≡ reached_or f (lowest_of l) (Answer.given tt) → ReachesOne s places transfers f words r
+  module _ {at : ℕ} {words' : List ℕ} {l : Maybe ℕ} (e : q ≡ Some at) (p : Infers.Reaches s places transfers f words l words') where
+    told : {r : Result (Unit {0}) Why.Refusal} → answer_of r ≡ reached_or f (lowest_of l) (Answer.given tt)
+        → ReachesOne s places transfers f words r
     unfolding reached_one
     told h =
         record {
@@ -47,11 +44,11 @@ module _ (s places transfers words : List ℕ) (f : ℕ) {q : Place} (find : Fin
               h ∙ rw (j, w);
         }
 
-    pub reach-all : l ≡ lowest.Nothing → ReachesOne s places transfers f words answer.Given
+    pub reach-all : l ≡ None → ReachesOne s places transfers f words (Ok tt)
     unfolding reached_or
     reach-all h = told (rw h)
 
-    pub reach-not : {n b : ℕ} → n ≡ No.unreached → l ≡ lowest.Block b → ReachesOne s places transfers f words (answer.Refused (Fault n f b))
+    pub reach-not : {n : Code.No} {b : ℕ} → n.0 ≡ No.unreached → l ≡ Some b → ReachesOne s places transfers f words (Err (Fault n f b))
     unfolding reached_or
     reach-not i h = told (rw (h, i))
 
@@ -87,21 +84,19 @@ pub record ReachedFrom (s places transfers words : List ℕ) (f : ℕ) : Type 0 
   pub is : (P : Program) → Given s places transfers words P → reached 0 P ≡ reached f (drop f P)
 
 module _ (s places transfers words : List ℕ) where
-  pub reached-first : ReachedFrom s places transfers words 0
-  reached-first = record { is = λ P g. refl }
-
   module _ {f : ℕ} (t : ReachedFrom s places transfers words f) where
-    module _ {words' : List ℕ} {r : Code.Answer} (l : length words' ≡ length words) (p : ReachesOne s places transfers f words' r) where
+    module _ {words' : List ℕ} {r : Result (Unit {0}) Why.Refusal} (l : length words' ≡ length words)
+        (p : ReachesOne s places transfers f words' r) where
       now : (P : Program) → Given s places transfers words P → answer_of r ≡ reached_one f (get_elem? P f)
       now P g = p.is P (record { placed = g.placed; ended = g.ended; long = l ∙ g.long })
 
-      pub reached-next : r ≡ answer.Given → ReachedFrom s places transfers words (f + 1)
+      pub reached-next : r ≡ Ok tt → ReachedFrom s places transfers words (f + 1)
       reached-next e = record { is = λ P g. t.is P g ∙ one-given f P (get_elem? P f) refl (sym (now P g) ∙ ap answer_of e) }
 
-      pub reached-not : {why : Why.Refusal} → r ≡ answer.Refused why → ReachesAll s places transfers words (answer.Refused why)
+      pub reached-not : {why : Why.Refusal} → r ≡ Err why → ReachesAll s places transfers words (Err why)
       reached-not e = record { is = λ P g. sym (t.is P g ∙ one-refused f P (get_elem? P f) refl (sym (now P g) ∙ ap answer_of e)) }
 
-    pub reached-end : 16 ≤ f → ReachesAll s places transfers words answer.Given
+    pub reached-end : 16 ≤ f → ReachesAll s places transfers words (Ok tt)
     unfolding reached
     reached-end h =
         record {

@@ -1,8 +1,9 @@
 -- What the writers of a completed table put, and what the call leaves: the definition's bytes, for every program of version 2 that places
 -- and transfers are those of.
-use Rattle.std.specs.Prelude.{ℕ, ◌-◌, ◌%◌, ◌^◌, ◌<◌, ◌≡◌, List, ◌++◌, map, length, drop, replicate}
+use Rattle.std.specs.Prelude.{ℕ, ◌-◌, ◌%◌, ◌^◌, ◌≤◌, ◌<◌, ◌≡◌, List, [], ◌++◌, map, length, drop, replicate, Result, Ok, Err}
+use denote.Ref.{MutBor}
 use Rattle.std.proofs.Math.Option.{Option, none, some}
-use Rattle.std.proofs.Math.ListN.{get_elem?}
+use Rattle.std.proofs.Math.ListN.{get_elem?, get_or}
 use Rattle.std.proofs.lemmas.List.Edits.{sets}
 use Rattle.model.specs.Answers.{Answer}
 use Rattle.model.specs.Lists.{concat, pad}
@@ -10,7 +11,7 @@ use Rattle.model.specs.Syntax.{Block, Function, Program}
 use Rattle.model.specs.Read as Read
 use Rattle.model.specs.Read.{Parsed, read_brief}
 use Rattle.model.specs.Write as Write
-use Rattle.answers.specs.declared.Answer as Code
+use Rattle.answers.specs.declared.Refusal.{Refusal}
 use Rattle.answers.specs.Answers.{answer_of, written_of}
 use Rattle.puts.specs.Puts.{Puts}
 use Rattle.places.specs.Places.{PlacesBy}
@@ -22,8 +23,6 @@ use Rattle.inference.specs.Complete as Model
 use Rattle.inference.specs.Complete.{unmarked, reached_or, output_bytes, Completed}
 use Rattle.scopings.specs.Words.{len, digits, scope_in}
 use Rattle.scopings.specs.Changes.{level_in, names_in}
-use Rattle.answers.specs.declared.Written.{Written}
-use Rattle.answers.specs.declared.Written.TheVariants as written
 
 -- the scope and the nesting that the words have for block b, whatever they are
 unfoldable pub scoping_in : List ℕ → ℕ → Scoping
@@ -58,6 +57,16 @@ block_of words b F = of Write.block (get_elem? (filled_by words F) b)
 abbrev pub blocks_of : List ℕ → Function → List ℕ
 blocks_of words F = concat (map Write.block (filled_by words F))
 
+-- calls at numbers below n put what a list has there, and nothing where it has nothing
+abbrev pub PutsOne : (ℕ → MutBor (List ℕ) → ℕ → ℕ → MutBor (List ℕ) → Type 0) → ℕ → List (List ℕ) → Type 0
+PutsOne post n xs =
+    (i : ℕ) (d : MutBor (List ℕ)) (k r : ℕ) (d' : MutBor (List ℕ)) → i < n → post i d k r d' → Puts d.now k (get_or xs i []) r d'.now
+
+-- and so each of the numbers below n: all of a list of n at most
+pub record PutsEach (post : ℕ → MutBor (List ℕ) → ℕ → ℕ → MutBor (List ℕ) → Type 0) (n : ℕ) (out : List ℕ) (k r : ℕ)
+    (out' : List ℕ) : Type 0 where
+  pub is : (xs : List (List ℕ)) → PutsOne post n xs → length xs ≤ n → Puts out k (concat xs) r out'
+
 -- P is the program of which places and transfers are those, and the words are as many as the inference takes
 pub record Given (s places transfers words : List ℕ) (P : Program) : Type 0 where
   pub placed : PlacesBy Read.bare s P places
@@ -82,11 +91,11 @@ unfoldable pub reached_one : ℕ → Option Function → Answer (Unit {0})
 reached_one f none = Answer.given tt
 reached_one f (some F) = reached_or f (unmarked 0 (marks F)) (Answer.given tt)
 
-pub record ReachesOne (s places transfers : List ℕ) (f : ℕ) (words : List ℕ) (r : Code.Answer) : Type 0 where
+pub record ReachesOne (s places transfers : List ℕ) (f : ℕ) (words : List ℕ) (r : Result (Unit {0}) Refusal) : Type 0 where
   pub is : (P : Program) → Given s places transfers words P → answer_of r ≡ reached_one f (get_elem? P f)
 
 -- and of all functions
-pub record ReachesAll (s places transfers words : List ℕ) (r : Code.Answer) : Type 0 where
+pub record ReachesAll (s places transfers words : List ℕ) (r : Result (Unit {0}) Refusal) : Type 0 where
   pub is : (P : Program) → Given s places transfers words P → answer_of r ≡ Model.reached 0 P
 
 -- as many zeros as bytes are lent
@@ -94,32 +103,32 @@ unfoldable pub blank : List ℕ
 blank = replicate output_bytes 0
 
 -- a refusal; or a table's length, and the table with 0 behind it, in as many bytes as are lent
-abbrev pub Tells : Answer Program → Written → List ℕ → Type 0
+abbrev pub Tells : Answer Program → Result ℕ Refusal → List ℕ → Type 0
 Tells (Answer.given Q) r buffer =
     (written_of r ≡ Answer.given (length (Write.table Q))) × (buffer ≡ pad output_bytes 0 (Write.table Q)) × (length buffer ≡ output_bytes)
 Tells (Answer.refused x) r buffer = written_of r ≡ Answer.refused x
 
 -- what is inferred of a table that reads, in a buffer of zeros
-pub record InfersAll (s places transfers words buffer : List ℕ) (r : Written) (buffer' : List ℕ) : Type 0 where
+pub record InfersAll (s places transfers words buffer : List ℕ) (r : Result ℕ Refusal) (buffer' : List ℕ) : Type 0 where
   pub is : (P : Program) → read_brief s ≡ Answer.given P → Given s places transfers words P → buffer ≡ blank →
       Tells (Model.inferred P) r buffer'
 
 -- a table that is given goes from a buffer to the output, of which it takes the front; a refusal leaves it
-abbrev pub handed : Written → List ℕ → List ℕ → List ℕ
-handed (written.Bytes n) buffer out = sets out 0 buffer
-handed (written.Refused why) buffer out = out
+abbrev pub handed : Result ℕ Refusal → List ℕ → List ℕ → List ℕ
+handed (Ok n) buffer out = sets out 0 buffer
+handed (Err why) buffer out = out
 
-pub record HandsOver (r : Written) (buffer out : List ℕ) (r' : Written) (out' : List ℕ) : Type 0 where
+pub record HandsOver (r : Result ℕ Refusal) (buffer out : List ℕ) (r' : Result ℕ Refusal) (out' : List ℕ) : Type 0 where
   pub answer : r' ≡ r
   pub after : length out < 2 ^ 63 → out' ≡ handed r buffer out
 
 -- an answer, and the output and the scratch afterwards
-pub record Writes (w : Completed) (r : Written) (out' words' : List ℕ) : Type 0 where
+pub record Writes (w : Completed) (r : Result ℕ Refusal) (out' words' : List ℕ) : Type 0 where
   pub answer : written_of r ≡ w.answer
   pub out : out' ≡ w.out
   pub words : words' ≡ w.words
 
 -- of a table that reads, where enough is lent
-pub record Finishes (s places out words : List ℕ) (r : Written) (out' words' : List ℕ) : Type 0 where
+pub record Finishes (s places out words : List ℕ) (r : Result ℕ Refusal) (out' words' : List ℕ) : Type 0 where
   pub is : (P : Program) → read_brief s ≡ Answer.given P → PlacesBy Read.bare s P places →
       Writes (Model.finish out words (Model.inferred P)) r out' words'

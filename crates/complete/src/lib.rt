@@ -2,21 +2,20 @@
 // as version 1 into a buffer, which the check is put to. Each writer puts its bytes at a place and gives the place behind them.
 #![tactic(auto)]
 
-ghost use Rattle.std.specs.Prelude.{◌≡◌, ◌-◌, ◌≤◌, length, take};
+ghost use Rattle.std.specs.Prelude.{◌≡◌, ◌≤◌, length, take};
 ghost use Rattle.model.specs.Calls.{check};
 ghost use Rattle.answers.specs.Answers.{answer_of, refusal_of};
 ghost use Rattle.puts.specs.Puts.{Puts};
 ghost use Rattle.scopings.specs.Words.{digits};
 ghost use Rattle.inference.specs.Complete as Model;
 ghost use Rattle.inference.specs.Complete.{scratch_words, output_bytes};
-ghost use Rattle.complete.specs.Writes.{scoping_bytes, scoping_in, PutsBlock, PutsIn, spawn_of, spawns_of, block_of, blocks_of};
+ghost use Rattle.complete.specs.Writes.{scoping_bytes, scoping_in, PutsBlock, PutsIn, PutsEach, spawn_of, spawns_of, block_of, blocks_of};
 ghost use Rattle.complete.specs.Writes.{PutsFunction, PutsFunctions, PutsTable, ReachesOne, ReachesAll, InfersAll, HandsOver};
 ghost use Rattle.complete.specs.Writes.{blank, Finishes, Writes};
 
-use answers::{Answer, No, Refusal, Written};
+use answers::{No, Refusal};
 use code::Table;
-use infer::Lowest;
-use places::{Layout, Place, Places};
+use places::{Layout, Places};
 use transfers::Transfers;
 
 // What is lent: so many words at least, of which the inference takes the first; and so many bytes.
@@ -31,26 +30,17 @@ impl Lent {
     pub const BYTES: usize = 16384;
 }
 
-// So many names, the outermost first.
+// So many names, the outermost first: any number of them, so it is no `to_le_bytes`, which has four.
 fn put_names(names: u32, count: u8, out: &mut [u8], k: usize) -> usize
     ensures { Puts out.old k (digits count names) result out.new }
 {
     let mut m = k;
     let mut rest = names;
-    let mut left = count;
-    while 0 < left {
+    'names: for _ in 0..count {
         m = puts::byte(out, m, (rest % 256) as u8);
-        rest = rest / 256;
-        left -= 1;
+        rest /= 256;
     }
     m
-}
-
-// How many names there are at a depth.
-fn count(depth: u8) -> u8
-    ensures { result ≡ depth - 1 }
-{
-    if depth == 0 { 0 } else { depth - 1 }
 }
 
 // The scope and the nesting of block b.
@@ -58,7 +48,7 @@ fn put_scoping(words: &[u32], b: u8, out: &mut [u8], k: usize) -> usize
     ensures { Puts out.old k (scoping_bytes (scoping_in words.now b)) result out.new }
 {
     let m = puts::half(out, k, scopings::scope(words, b));
-    let n = count(scopings::depth(words, b));
+    let n = scopings::depth(words, b).saturating_sub(1);
     let l = puts::byte(out, m, n);
     put_names(scopings::names(words, b), n, out, l)
 }
@@ -88,9 +78,21 @@ fn put_block_of(
         out.new }
 {
     match places::block(places, f, b as usize) {
-        Place::Nowhere => k,
-        Place::At(at) => put_block(s, at, words, b, out, k),
+        None => k,
+        Some(at) => put_block(s, at, words, b, out, k),
     }
+}
+
+// What `put` puts for each number below n.
+fn put_each<F: Fn(u8, &mut [u8], usize) -> usize>(n: u8, out: &mut [u8], k: usize, put: F) -> usize
+    requires { F.IsAlwaysCallable put }
+    ensures { PutsEach (F.post put) n out.old k result out.new }
+{
+    let mut m = k;
+    for i in 0..n {
+        m = put(i, out, m);
+    }
+    m
 }
 
 // The blocks of function f.
@@ -98,13 +100,12 @@ fn put_blocks(s: &[u8], places: &Places, f: usize, words: &[u32], out: &mut [u8]
     ensures { PutsIn s.now places.now f (blocks_of words.now) out.old k result
         out.new }
 {
-    let mut m = k;
-    let mut b = 0;
-    while b < Layout::BLOCKS as u8 {
-        m = put_block_of(s, places, f, words, b, out, m);
-        b += 1;
-    }
-    m
+    put_each(
+        Layout::BLOCKS as u8,
+        out,
+        k,
+        |b: u8, out: &mut [u8], m: usize| put_block_of(s, places, f, words, b, out, m),
+    )
 }
 
 // Spawn call `call` of function f, if there is one.
@@ -112,8 +113,8 @@ fn put_spawn(s: &[u8], places: &Places, f: usize, call: usize, out: &mut [u8], k
     ensures { PutsIn s.now places.now f (spawn_of call) out.old k result out.new }
 {
     match places::spawn(places, f, call) {
-        Place::Nowhere => k,
-        Place::At(at) => puts::stretch(out, k, s, at, code::spawn_end(s, at)),
+        None => k,
+        Some(at) => puts::stretch(out, k, s, at, code::spawn_end(s, at)),
     }
 }
 
@@ -121,13 +122,12 @@ fn put_spawn(s: &[u8], places: &Places, f: usize, call: usize, out: &mut [u8], k
 fn put_spawns(s: &[u8], places: &Places, f: usize, out: &mut [u8], k: usize) -> usize
     ensures { PutsIn s.now places.now f spawns_of out.old k result out.new }
 {
-    let mut m = k;
-    let mut i = 0;
-    while i < Layout::SPAWNS {
-        m = put_spawn(s, places, f, i, out, m);
-        i += 1;
-    }
-    m
+    put_each(
+        Layout::SPAWNS as u8,
+        out,
+        k,
+        |call: u8, out: &mut [u8], m: usize| put_spawn(s, places, f, call as usize, out, m),
+    )
 }
 
 // Function f, if there is one, with what is inferred of it: its four counts, its spawn calls, its blocks.
@@ -143,18 +143,16 @@ fn put_function(
     ensures { PutsFunction s.now places.now transfers.now f words.old
         out.old k result out.new }
 {
-    match places::function(places, f) {
-        Place::Nowhere => k,
-        Place::At(at) => {
-            infer::infer(s, places, transfers, f, words);
-            let m = puts::stretch(out, k, s, at, code::after(at, 4));
-            let n = put_spawns(s, places, f, out, m);
-            put_blocks(s, places, f, words, out, n)
-        }
-    }
+    let Some(at) = places::function(places, f) else {
+        return k;
+    };
+    infer::infer(s, places, transfers, f, words);
+    let m = puts::stretch(out, k, s, at, code::after(at, 4));
+    let n = put_spawns(s, places, f, out, m);
+    put_blocks(s, places, f, words, out, n)
 }
 
-// The functions.
+// The functions. A loop of its own, since the words change: of an `FnMut` the proof that all else stays did not close.
 fn put_functions(
     s: &[u8],
     places: &Places,
@@ -167,10 +165,8 @@ fn put_functions(
         out.old k result out.new }
 {
     let mut m = k;
-    let mut f = 0;
-    while f < Layout::FUNCTIONS {
+    for f in 0..Layout::FUNCTIONS {
         m = put_function(s, places, transfers, f, words, out, m);
-        f += 1;
     }
     m
 }
@@ -195,44 +191,45 @@ fn put_table(
 }
 
 // 25 of function f, if there is one.
-fn reach(s: &[u8], places: &Places, transfers: &Transfers, f: usize, words: &mut [u32]) -> Answer
+fn reach(
+    s: &[u8],
+    places: &Places,
+    transfers: &Transfers,
+    f: usize,
+    words: &mut [u32],
+) -> Result<(), Refusal>
     ensures { ReachesOne s.now places.now transfers.now f words.old result }
 {
-    match places::function(places, f) {
-        Place::Nowhere => Answer::Given,
-        Place::At(_) => match infer::unreached(s, places, transfers, f, words) {
-            Lowest::Nothing => Answer::Given,
-            Lowest::Block(b) => Answer::Refused(Refusal::Fault(No::UNREACHED, f, b as usize)),
-        },
+    let Some(_) = places::function(places, f) else {
+        return Ok(());
+    };
+    match infer::unreached(s, places, transfers, f, words) {
+        None => Ok(()),
+        Some(b) => Err(Refusal::Fault(No::UNREACHED, f, b as usize)),
     }
 }
 
 // 25: the lowest block that is not reached, of the lowest function with one.
-fn reached(s: &[u8], places: &Places, transfers: &Transfers, words: &mut [u32]) -> Answer
+fn reached(
+    s: &[u8],
+    places: &Places,
+    transfers: &Transfers,
+    words: &mut [u32],
+) -> Result<(), Refusal>
     ensures { ReachesAll s.now places.now transfers.now words.old result }
 {
-    let mut f = 0;
-    while f < Layout::FUNCTIONS {
-        match reach(s, places, transfers, f, words) {
-            Answer::Refused(why) => return Answer::Refused(why),
-            Answer::Given => {
-                f += 1;
-            }
-        }
+    for f in 0..Layout::FUNCTIONS {
+        reach(s, places, transfers, f, words)?;
     }
-    Answer::Given
+    Ok(())
 }
 
 // The check of the first n bytes.
-fn judged(table: &[u8], n: usize) -> Answer
+fn judged(table: &[u8], n: usize) -> Result<(), Refusal>
     ensures { answer_of result ≡ check (take n table.now) }
 {
     let mut places = places::none();
-    if n <= table.len() {
-        verifier::check_placed(&table[0..n], &mut places)
-    } else {
-        verifier::check_placed(table, &mut places)
-    }
+    verifier::check_placed(&table[..n.min(table.len())], &mut places)
 }
 
 // 26: the function of a fault, whichever the fault is; it has no block.
@@ -242,9 +239,8 @@ fn impossible(why: Refusal) -> Refusal
     ensures { refusal_of result ≡ Model.impossible (refusal_of why) }
 {
     match why {
-        Refusal::Plain(n) => Refusal::Plain(n),
-        Refusal::Byte(at) => Refusal::Byte(at),
         Refusal::Fault(_, f, _) => Refusal::Fault(No::IMPOSSIBLE, f, NO_BLOCK),
+        Refusal::Plain(_) | Refusal::Byte(_) => why,
     }
 }
 
@@ -255,33 +251,25 @@ fn inferred(
     transfers: &Transfers,
     words: &mut [u32],
     buffer: &mut [u8],
-) -> Written
+) -> Result<u32, Refusal>
     ensures { InfersAll s.now places.now transfers.now words.old buffer.old result
         buffer.new }
 {
-    match reached(s, places, transfers, words) {
-        Answer::Refused(why) => Written::Refused(why),
-        Answer::Given => {
-            let length = put_table(s, places, transfers, words, buffer);
-            match judged(buffer, length as usize) {
-                Answer::Refused(why) => Written::Refused(impossible(why)),
-                Answer::Given => Written::Bytes(length),
-            }
-        }
+    reached(s, places, transfers, words)?;
+    let length = put_table(s, places, transfers, words, buffer);
+    match judged(buffer, length as usize) {
+        Ok(()) => Ok(length),
+        Err(why) => Err(impossible(why)),
     }
 }
 
 // A table that is given goes from the buffer to the output; a refusal leaves the output.
-fn hand_over(r: Written, buffer: &[u8], out: &mut [u8]) -> Written
+fn hand_over(r: Result<u32, Refusal>, buffer: &[u8], out: &mut [u8]) -> Result<u32, Refusal>
     ensures { HandsOver r buffer.now out.old result out.new }
 {
-    match r {
-        Written::Refused(why) => Written::Refused(why),
-        Written::Bytes(length) => {
-            puts::bytes(out, 0, buffer);
-            Written::Bytes(length)
-        }
-    }
+    let length = r?;
+    puts::bytes(out, 0, buffer);
+    Ok(length)
 }
 
 // As many zeros as bytes are lent.
@@ -292,7 +280,7 @@ fn zeros() -> [u8; Lent::BYTES]
 }
 
 // What is inferred of a table that reads, and the output and the scratch as they are left.
-fn finish(s: &[u8], places: &Places, out: &mut [u8], words: &mut [u32]) -> Written
+fn finish(s: &[u8], places: &Places, out: &mut [u8], words: &mut [u32]) -> Result<u32, Refusal>
     requires { (length out.old ≡ output_bytes) × (scratch_words ≤ length words.old) }
     ensures { Finishes s.now places.now out.old words.old result out.new
         words.new }
@@ -312,21 +300,17 @@ fn finish(s: &[u8], places: &Places, out: &mut [u8], words: &mut [u32]) -> Writt
 }
 
 // Completes a table of version 2: 1 to 3, 24, 25, 26, or its length.
-pub fn complete(s: &[u8], out: &mut [u8], words: &mut [u32]) -> Written
+pub fn complete(s: &[u8], out: &mut [u8], words: &mut [u32]) -> Result<u32, Refusal>
     ensures { Writes (Model.complete s.now out.old words.old) result out.new
         words.new }
 {
     let mut places = places::none();
-    match table::read_brief(s, &mut places) {
-        Answer::Refused(why) => Written::Refused(why),
-        Answer::Given => {
-            if words.len() < Lent::WORDS {
-                return Written::Refused(Refusal::Plain(No::LENT));
-            }
-            if out.len() != Lent::BYTES {
-                return Written::Refused(Refusal::Plain(No::LENT));
-            }
-            finish(s, &places, out, words)
-        }
+    table::read_brief(s, &mut places)?;
+    if words.len() < Lent::WORDS {
+        return Err(Refusal::Plain(No::LENT));
     }
+    if out.len() != Lent::BYTES {
+        return Err(Refusal::Plain(No::LENT));
+    }
+    finish(s, &places, out, words)
 }

@@ -1,12 +1,11 @@
 -- The greatest so far, and what is left: over the blocks of a function, and over the functions.
 use Prim.Native.Nat.{ℕ, zero, suc, ◌+◌, ◌-◌, ◌≤◌, ◌<◌, max}
-use mathlib.Core.Path.{◌≡◌, refl, sym, ◌∙◌, ap, subst}
+use mathlib.Core.Path.{◌≡◌, refl, sym, ◌∙◌, ap}
 use mathlib.Core.Option.{Option, none, some, map}
 use mathlib.Core.List.{List, [], ◌∷◌, ◌++◌}
 use native.Mathlib.Nat.{zero-max}
 use native.Mathlib.Omega.{arith}
-use mir.Val.{Fits}
-use mir.Syntax.{w8}
+use Rattle.std.specs.Prelude.{Some, None}
 use lib.ListN.{length, get_elem?, drop, set, replicate}
 use Rattle.model.specs.Syntax.{Block, Function, Program}
 use Rattle.model.specs.Pool.{block_in}
@@ -15,11 +14,7 @@ use Rattle.model.proofs.Facts.{none-some, some-injective, each_at, past-at, drop
 use Rattle.places.specs.Layout as Layout
 use Rattle.places.specs.Places.{Places}
 use Rattle.chains.specs.Depth.{called_in, callees_of, callees, greater, greatest, frames_from, numbers, deepest}
-use Rattle.depth.specs.declared.Called.{Called}
-use Rattle.depth.specs.declared.Called.TheVariants as called
-use Rattle.depth.specs.declared.Chain.{Chain}
-use Rattle.depth.specs.declared.Chain.TheVariants.{Frames, Endless}
-use Rattle.depth.specs.Works.{called_of, calls_in, FindsCall, chain_of, AtMost, Knows, Works, WorksAll}
+use Rattle.depth.specs.Works.{Called, Chain, called_of, calls_in, FindsCall, chain_of, Knows, Works, WorksAll}
 use Rattle.depth.proofs.Memory.{knows-nothing, knows_more}
 
 -- what the blocks of a function call, from number b on
@@ -82,23 +77,8 @@ unfolding frames_from
 frames-own P zero f h = absurd (h refl)
 frames-own P (suc left) f h = let e : suc left - 1 ≡ left = omega arith in rw e
 
--- no more than the functions left: as noted, and with another callee
-pub noted-within : (left d : ℕ) (r : Chain) → chain_of r ≡ some d → d ≤ left → AtMost left r
-noted-within left d (Frames n) e h = let z : n ≡ d = some-injective e in omega arith
-noted-within left d Endless e h = none-some e
-
-module _ (left n : ℕ) (r : Chain) (l : AtMost (left - 1) r) (z : r ≡ Frames n) where
-  below : n ≤ left - 1
-  below = subst (AtMost (left - 1)) z l
-
-  pub callee-fits : Fits w8 left → Fits w8 (n + 1)
-  callee-fits h = omega (arith, below)
-
-  pub callee-within : (most m : ℕ) → 0 < most → most ≤ left → m ≡ max most (n + 1) → m ≤ left
-  callee-within most m g h e = omega (arith, below)
-
 -- with no functions left
-pub spent : (s places known : List ℕ) (left f : ℕ) → left ≡ 0 → Works s places known left f Endless known
+pub spent : (s places known : List ℕ) (left f : ℕ) → left ≡ 0 → Works s places known left f None known
 unfolding frames_from
 spent s places known left f e P p k = (rw e, k)
 
@@ -112,19 +92,19 @@ pub left-first : (s places known : List ℕ) (left f : ℕ) → (left ≡ 0 → 
 left-first s places known left f h P p k = (frames-own P left f h ∙ rw (own-least, ← from_first (get_elem? P f)), k)
 
 module _ (s places known₀ : List ℕ) (left f : ℕ) (known : List ℕ) (most b : ℕ) (i : Left s places known₀ left f known most b) where
-  left_over : (known' : List ℕ) (r : Chain) (P : Program) → Places s P places → Knows P known₀ → called_from (get_elem? P f) b ≡ []
-      → 0 < most → chain_of r ≡ some most → known' ≡ set known f most → (chain_of r ≡ frames_from P left f) × Knows P known'
+  left_over : (known' : List ℕ) (P : Program) → Places s P places → Knows P known₀ → called_from (get_elem? P f) b ≡ [] → 0 < most
+      → known' ≡ set known f most → (some most ≡ frames_from P left f) × Knows P known'
   unfolding greatest greater
-  left_over known' r P p k₀ e g c w =
+  left_over known' P p k₀ e g w =
       let (j, k) = i P p k₀ in
       let z : max most 1 ≡ most = omega arith in
       let h : frames_from P left f ≡ some most = j ∙ rw (e, z) in
-      (c ∙ sym h, rw w (knows_more P known left f most k h))
+      (sym h, rw w (knows_more P known left f most k h))
 
-  pub left_end : (known' : List ℕ) (r : Chain) → Layout.blocks ≤ b → 0 < most → chain_of r ≡ some most → known' ≡ set known f most
-      → Works s places known₀ left f r known'
+  pub left_end : (known' : List ℕ) → Layout.blocks ≤ b → 0 < most → known' ≡ set known f most
+      → Works s places known₀ left f (Some most) known'
   unfolding called_from called_in
-  left_end known' r l g c w P p k₀ = left_over known' r P p k₀ (go (get_elem? P f) refl) g c w
+  left_end known' l g w P p k₀ = left_over known' P p k₀ (go (get_elem? P f) refl) g w
     where
       go : (o : Option Function) → get_elem? P f ≡ o → called_from o b ≡ []
       go none e = refl
@@ -133,21 +113,19 @@ module _ (s places known₀ : List ℕ) (left f : ℕ) (known : List ℕ) (most 
           rw (drop-none F.blocks b (past-at F.blocks b (omega arith)))
 
   module _ {q : Called} (find : FindsCall s places f b q) where
-    pub left-none : (known' : List ℕ) (r : Chain) → q ≡ called.NoBlock → 0 < most → chain_of r ≡ some most → known' ≡ set known f most
-        → Works s places known₀ left f r known'
-    left-none known' r e g c w P p k₀ =
-        left_over known' r P p k₀ (from-none b (get_elem? P f) (sym (find P p) ∙ ap called_of e)) g c w
+    pub left-none : (known' : List ℕ) → q ≡ None → 0 < most → known' ≡ set known f most → Works s places known₀ left f (Some most) known'
+    left-none known' e g w P p k₀ = left_over known' P p k₀ (from-none b (get_elem? P f) (sym (find P p) ∙ ap called_of e)) g w
 
-    pub left-on : q ≡ called.Nothing → Left s places known₀ left f known most (b + 1)
+    pub left-on : q ≡ Some None → Left s places known₀ left f known most (b + 1)
     left-on e P p k₀ =
         let (j, k) = i P p k₀ in
         (j ∙ rw (from_some b (get_elem? P f) [] (sym (find P p) ∙ ap called_of e)), k)
 
-    module _ {g : ℕ} (known' : List ℕ) (r : Chain) (e : q ≡ called.Function g) (works : Works s places known (left - 1) g r known') where
+    module _ {g : ℕ} (known' : List ℕ) (r : Chain) (e : q ≡ Some (Some g)) (works : Works s places known (left - 1) g r known') where
       callee : (P : Program) → Places s P places → called_from (get_elem? P f) b ≡ g ∷ called_from (get_elem? P f) (b + 1)
       callee P p = from_some b (get_elem? P f) (g ∷ []) (sym (find P p) ∙ ap called_of e)
 
-      pub left-endless : r ≡ Endless → Works s places known₀ left f Endless known'
+      pub left-endless : r ≡ None → Works s places known₀ left f None known'
       unfolding greatest greater
       left-endless z P p k₀ =
           let (j, k) = i P p k₀ in
@@ -155,7 +133,7 @@ module _ (s places known₀ : List ℕ) (left f : ℕ) (known : List ℕ) (most 
           let h : frames_from P (left - 1) g ≡ none = sym w ∙ ap chain_of z in
           (sym (j ∙ rw (callee P p, h)), k')
 
-      pub left-call : (n m : ℕ) → r ≡ Frames n → m ≡ max most (n + 1) → Left s places known₀ left f known' m (b + 1)
+      pub left-call : (n m : ℕ) → r ≡ Some n → m ≡ max most (n + 1) → Left s places known₀ left f known' m (b + 1)
       unfolding greatest
       left-call n m z d P p k₀ =
           let (j, k) = i P p k₀ in
@@ -179,7 +157,7 @@ numbers-next zero h = absurd (omega arith)
 numbers-next (suc f) h = let e : suc f - 1 ≡ f = omega arith in rw e
 
 module _ (s places : List ℕ) (n : ℕ) (known : List ℕ) (most f : ℕ) (i : AllLeft s places n known most f) where
-  pub all_end : f ≤ 0 → WorksAll s places n (Frames most)
+  pub all_end : f ≤ 0 → WorksAll s places n (Some most)
   unfolding numbers greatest greater
   all_end h P p e =
       let f0 : f ≡ 0 = omega arith in
@@ -187,14 +165,14 @@ module _ (s places : List ℕ) (n : ℕ) (known : List ℕ) (most f : ℕ) (i : 
       sym ((i P p e).0 ∙ rw (f0, z))
 
   module _ {k : ℕ} (known' : List ℕ) (r : Chain) (h : k < f) (works : Works s places known n (f - 1) r known') where
-    pub all-endless : r ≡ Endless → WorksAll s places n Endless
+    pub all-endless : r ≡ None → WorksAll s places n None
     unfolding greatest greater
     all-endless z P p e =
         let (j, known-right) = i P p e in
         let w : frames_from P n (f - 1) ≡ none = sym (works P p known-right).0 ∙ ap chain_of z in
         sym (j ∙ rw (numbers-next f h, w))
 
-    pub all-on : (d m : ℕ) → r ≡ Frames d → m ≡ max most d → AllLeft s places n known' m (f - 1)
+    pub all-on : (d m : ℕ) → r ≡ Some d → m ≡ max most d → AllLeft s places n known' m (f - 1)
     unfolding greatest
     all-on d m z q P p e =
         let (j, known-right) = i P p e in

@@ -12,8 +12,7 @@ use Rattle.model.specs.Syntax.{Program}
 use Rattle.model.proofs.Facts.{same_at}
 use Rattle.chains.specs.Depth.{frames_from}
 use Rattle.chains.proofs.Worked.{frames-known}
-use Rattle.depth.specs.declared.Chain.{Chain}
-use Rattle.depth.specs.Works.{chain_of, Knows, Works}
+use Rattle.depth.specs.Works.{Chain, chain_of, Knows, Works}
 
 pub knows-nothing : (P : Program) (n : ℕ) → Knows P (replicate n 0)
 knows-nothing P n f d e = absurd (omega (arith, same_at {A = ℕ} n f 0))

@@ -7,8 +7,8 @@ use Rattle.model.specs.Answers.{Answer}
 use Rattle.model.specs.Calls.{check}
 use Rattle.model.proofs.Accepted.{check-wf}
 use Rattle.model.proofs.Numbers.{read-heading}
-use Rattle.answers.specs.declared.Answer as Code
-use Rattle.answers.specs.declared.Answer.TheVariants.{Given, Refused}
+use Rattle.std.specs.Prelude.{Some, None, Ok, Err}
+use Rattle.std.specs.Option.{ok_or}
 use Rattle.answers.specs.declared.Refusal as Why
 use Rattle.answers.specs.declared.Refusal.TheVariants.{Plain}
 use Rattle.answers.specs.Answers.{answer_of}
@@ -19,16 +19,14 @@ use Rattle.verifier.specs.Means.{CheckedAs}
 use Rattle.chains.specs.Depth as Model
 use Rattle.chains.specs.Depth.{deep}
 use Rattle.chains.proofs.Means.{depth-means, depth-accepted}
-use Rattle.depth.specs.declared.Chain.{Chain}
-use Rattle.depth.specs.declared.Chain.TheVariants.{Frames, Endless}
-use Rattle.depth.specs.declared.Needed.TheVariants as needed
-use Rattle.depth.specs.Works.{chain_of, WorksAll, needed_of}
+use Rattle.verifier.specs.Verdicts.{Judgement}
+use Rattle.depth.specs.Works.{Chain, chain_of, WorksAll, needed_of}
 
-module _ (s before places : List ℕ) (r : Code.Answer) (c : CheckedAs s before places r) (none : before ≡ nowhere) where
-  pub table-refused : (why : Why.Refusal) → r ≡ Refused why → needed_of (needed.Refused why) ≡ Model.depth s
+module _ (s before places : List ℕ) (r : Judgement) (c : CheckedAs s before places r) (none : before ≡ nowhere) where
+  pub table-refused : (why : Why.Refusal) → r ≡ Err why → needed_of (Err why) ≡ Model.depth s
   table-refused why e = sym (depth-means.refused s _ (sym (c.answer none) ∙ ap answer_of e))
 
-  module _ {n : ℕ} (q : Chain) (e : r ≡ Given) (d : n ≡ byte_at s 5) (works : WorksAll s places n q) where
+  module _ {n : ℕ} (q : Chain) (e : r ≡ Ok tt) (d : n ≡ byte_at s 5) (works : WorksAll s places n q) where
     accepted : deep (chain_of q) ≡ Model.depth s
     accepted =
         let h : check s ≡ Answer.given tt = sym (c.answer none) ∙ ap answer_of e in
@@ -36,10 +34,10 @@ module _ (s before places : List ℕ) (r : Code.Answer) (c : CheckedAs s before 
         let p = left-places s before places P c.placed none reads in
         ap deep (works P p ((read-heading s P reads).functions ∙ sym d)) ∙ sym (depth-accepted s P h reads)
 
-    pub table-frames : {m : ℕ} → q ≡ Frames m → needed_of (needed.Frames m) ≡ Model.depth s
+    pub table-answered : needed_of (ok_or q (Plain (record { 0 = No.cycle }))) ≡ Model.depth s
     unfolding deep
-    table-frames z = ap (λ (x : Chain). deep (chain_of x)) (sym z) ∙ accepted
-
-    pub table-cycle : {m : ℕ} → m ≡ No.cycle → q ≡ Endless → needed_of (needed.Refused (Plain m)) ≡ Model.depth s
-    unfolding deep
-    table-cycle is z = rw is (ap (λ (x : Chain). deep (chain_of x)) (sym z) ∙ accepted)
+    table-answered = go q accepted
+      where
+        go : (q : Chain) → deep (chain_of q) ≡ Model.depth s → needed_of (ok_or q (Plain (record { 0 = No.cycle }))) ≡ Model.depth s
+        go (Some d) e = e
+        go None e = e

@@ -2,7 +2,8 @@
 use Prim.Native.Nat.{ℕ, suc, ◌+◌, ◌-◌, ◌≤◌, ◌<◌}
 use mathlib.Core.Path.{◌≡◌, refl, sym, ap, subst, ◌∙◌}
 use mathlib.Core.Bool.{true, false}
-use mathlib.Core.Option.{Option, none, some}
+use mathlib.Core.Option.{Option as Maybe, none, some}
+use Rattle.std.specs.Prelude.{Option, Some, None}
 use mathlib.Core.List.{List, [], ◌∷◌, ◌++◌, append-nil, append_assoc}
 use native.Mathlib.Omega.{arith}
 use native.Mathlib.Numerals.{add-one}
@@ -17,8 +18,6 @@ use Rattle.model.specs.Pool as Pool
 use Rattle.model.specs.Pool.{temporaries}
 use Rattle.model.specs.Frames as Frames
 use Rattle.model.specs.Frames.{look, look_all, bind, bind_all}
-use Rattle.eval.specs.declared.Operand.{Operand}
-use Rattle.eval.specs.declared.Operand.TheVariants.{Value, Unbound}
 use Rattle.code.specs.Bytes.{byte_at, past}
 use Rattle.code.specs.Code.{run, count_at, arguments_at}
 use Rattle.eval.specs.Given.{operand_as, bound_part, filled, Looks}
@@ -36,11 +35,11 @@ unfolding run
 run_ends s p n i h = let e : n - i ≡ 0 = omega arith in rw e
 
 -- values before others
-unfoldable pub ahead : List ℤ → Option (List ℤ) → Option (List ℤ)
+unfoldable pub ahead : List ℤ → Maybe (List ℤ) → Maybe (List ℤ)
 ahead v̄ none = none
 ahead v̄ (some w̄) = some (v̄ ++ w̄)
 
-ahead-nil : (o : Option (List ℤ)) → o ≡ ahead [] o
+ahead-nil : (o : Maybe (List ℤ)) → o ≡ ahead [] o
 unfolding ahead
 ahead-nil none = refl
 ahead-nil (some w̄) = refl
@@ -52,7 +51,7 @@ module _ (k : Pool.Frame) where
   unfolding look_all ahead
   look-cons x x̄ v v̄ e = rw e (go (look_all k x̄))
     where
-      go : (o : Option (List ℤ)) → ahead v̄ (Frames.◌>>=◌ o (λ w̄. some (v ∷ w̄))) ≡ ahead (v̄ ++ (v ∷ [])) o
+      go : (o : Maybe (List ℤ)) → ahead v̄ (Frames.◌>>=◌ o (λ w̄. some (v ∷ w̄))) ≡ ahead (v̄ ++ (v ∷ [])) o
       go none = refl
       go (some w̄) = ap some (sym (append_assoc v̄ (v ∷ []) w̄))
 
@@ -84,8 +83,8 @@ module _ (k : Pool.Frame) where
           back = refl;
         }
 
-    pub read_goes : (out : List ℤ) (p i : ℕ) (r : Operand) {x q : ℕ} {v : ℤ} → Read out p i → i < n → x ≡ byte_at s p → q ≡ past p 1
-        → r ≡ operand_as (look k x) → r ≡ Value v → SFits w32 v → Read (set out i (to_z w32 (of_z w32 v))) q (i + 1)
+    pub read_goes : (out : List ℤ) (p i : ℕ) (r : Option ℤ) {x q : ℕ} {v : ℤ} → Read out p i → i < n → x ≡ byte_at s p → q ≡ past p 1
+        → r ≡ operand_as (look k x) → r ≡ Some v → SFits w32 v → Read (set out i (to_z w32 (of_z w32 v))) q (i + 1)
     read_goes out p i r {v = v} h l e₁ e₂ e₃ t f =
         let some-v : look k (byte_at s p) ≡ some v = ap (look k) (sym e₁) ∙ value-is r _ e₃ t in
         let rest : List ℕ = run s (past p 1) (n - (i + 1)) in
@@ -116,7 +115,7 @@ module _ (k : Pool.Frame) where
         }
 
     module _ (out : List ℤ) (p i : ℕ) (h : Read out p i) where
-      read-stops : (r : Operand) {x : ℕ} → i < n → x ≡ byte_at s p → r ≡ operand_as (look k x) → r ≡ Unbound
+      read-stops : (r : Option ℤ) {x : ℕ} → i < n → x ≡ byte_at s p → r ≡ operand_as (look k x) → r ≡ None
           → (none ≡ look_all k (run s p₀ n)) × (out ≡ filled k (run s p₀ n) out₀)
       read-stops r l e₁ e₂ t =
           let none-v : look k (byte_at s p) ≡ none = ap (look k) (sym e₁) ∙ none_is r _ e₂ t in
@@ -153,7 +152,7 @@ arguments-are s at e d = rw (e, d)
 
 module _ (k : Pool.Frame) (s : List ℕ) (at : ℕ) {p₀ n : ℕ} {out₀ : List ℤ} (out : List ℤ) (p i : ℕ) (e : p₀ ≡ past at 1)
     (d : n ≡ count_at s at) (h : Read k s p₀ n out₀ out p i) where
-  pub arguments-unbound : {x : ℕ} (r : Operand) → i < n → x ≡ byte_at s p → r ≡ operand_as (look k x) → r ≡ Unbound
+  pub arguments-unbound : {x : ℕ} (r : Option ℤ) → i < n → x ≡ byte_at s p → r ≡ operand_as (look k x) → r ≡ None
       → Looks k s at out₀ false out
   arguments-unbound r l e₁ e₂ t =
       let (q, w) = read-stops k s p₀ n out₀ out p i h r l e₁ e₂ t in

@@ -1,6 +1,7 @@
 -- What the code's answers stand for, in the model's terms.
 use Rattle.std.specs.Prelude.{ℕ, zero, suc, ◌<◌, ◌≤◌, Bool, true, false, ◌≡◌, List, [], ◌∷◌, ℤ, pos, length, take}
-use Rattle.std.proofs.Math.Option.{Option, none, some}
+use Rattle.std.specs.Prelude.{Option, Some, None}
+use Rattle.std.proofs.Math.Option.{Option as Maybe, none, some}
 use Rattle.model.specs.Values as Values
 use Rattle.model.specs.Values.{Worked}
 use Rattle.model.specs.Lists.{Each, pad}
@@ -9,48 +10,51 @@ use Rattle.model.specs.Frames.{look, look_all, bind_all}
 use Rattle.words.specs.Runs.{pasted}
 use Rattle.pool.specs.InPlace.{FrameHeld, Became, Bound}
 use Rattle.code.specs.Code.{most, count_at, arguments_at}
-use Rattle.eval.specs.declared.Operand.{Operand}
-use Rattle.eval.specs.declared.Operand.TheVariants as operand
 use Rattle.eval.specs.declared.Evaluated.{Evaluated}
 use Rattle.eval.specs.declared.Evaluated.TheVariants.{Value, Overflow, Unbound}
 use Rattle.eval.specs.declared.Values.{Values}
-use Rattle.eval.specs.declared.Looked.{Looked}
 
 -- what is there, by a flag
-abbrev pub optional : {A : Type 0} → Bool → A → Option A
+abbrev pub optional : {A : Type 0} → Bool → A → Maybe A
 optional true a = some a
 optional false a = none
 
 -- what an operand and an expression come to, as the code has it
-unfoldable pub operand_as : Option ℤ → Operand
-operand_as none = operand.Unbound
-operand_as (some v) = operand.Value v
+unfoldable pub operand_as : Maybe ℤ → Option ℤ
+operand_as none = None
+operand_as (some v) = Some v
 
-unfoldable pub evaluated_as : Option Worked → Evaluated
+unfoldable pub evaluated_as : Maybe Worked → Evaluated
 evaluated_as none = Unbound
 evaluated_as (some (Worked.value v)) = Value v
 evaluated_as (some Worked.overflow) = Overflow
 
+-- a number that is worked out in 32 bits, if they hold it
+unfoldable pub worked_as : Option ℤ → Evaluated
+worked_as None = Overflow
+worked_as (Some v) = Value v
+
 abbrev pub values_of : Values → List ℤ
 values_of v = take v.count v.at
 
-abbrev pub looked_of : Looked → Option (List ℤ)
-looked_of l = optional l.ok (values_of l.values)
+abbrev pub looked_of : Option Values → Maybe (List ℤ)
+looked_of None = none
+looked_of (Some v) = some (values_of v)
 
--- values, or none, as the code has them: with 0 behind the last of them, and no values for none
+-- values, or none, as the code has them: with 0 behind the last of them
 unfoldable pub values_as : List ℤ → Values
 values_as v̄ = record { count = length v̄; at = pad most (pos 0) v̄ }
 
-unfoldable pub looked_as : Option (List ℤ) → Looked
-looked_as none = record { ok = false; values = values_as [] }
-looked_as (some v̄) = record { ok = true; values = values_as v̄ }
+unfoldable pub looked_as : Maybe (List ℤ) → Option Values
+looked_as none = None
+looked_as (some v̄) = Some (values_as v̄)
 
 -- the values of an argument list, in a buffer, by a flag
-abbrev pub looked_in : List ℕ → ℕ → Bool → List ℤ → Option (List ℤ)
+abbrev pub looked_in : List ℕ → ℕ → Bool → List ℤ → Maybe (List ℤ)
 looked_in s at r out = optional r (take (count_at s at) out)
 
 -- X(x̄), up to the first temporary that is not bound
-abbrev pub and_on : Option ℤ → List ℤ → List ℤ
+abbrev pub and_on : Maybe ℤ → List ℤ → List ℤ
 and_on none v̄ = []
 and_on (some v) v̄ = v ∷ v̄
 

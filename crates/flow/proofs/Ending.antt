@@ -1,5 +1,6 @@
 -- The end of the input: the last text.
 use Rattle.std.proofs.Common.{◌≡◌, ℕ, List, length, take, ℤ, refl, ap, ◌∙◌, subst, arith}
+use mathlib.Core.Logic.{◌⊎◌, inl, inr}
 use mathlib.Core.Option.{Option}
 use Rattle.model.specs.Numbers as No
 use Rattle.model.specs.Answers.{Refusal}
@@ -9,7 +10,8 @@ use Rattle.model.specs.Rules.{main_values}
 use Rattle.model.specs.Text.{newline}
 use Rattle.model.specs.Output.{refusal, result_line, result}
 use Rattle.model.proofs.Few.{few-main}
-use Rattle.eval.specs.declared.Looked.{Looked}
+use Rattle.std.specs.Prelude.{Option as Optional}
+use Rattle.eval.specs.declared.Values.{Values}
 use Rattle.eval.specs.Given.{looked_of}
 use Rattle.eval.proofs.Buffers.{looked-of}
 use Rattle.steps.specs.Choice as Steps
@@ -49,7 +51,7 @@ ends-over m run out e = record { is = λ st h. go st h }
     go Stage.over h = record { length = refl; bytes = refl; behind = refl }
 
 -- main's values, or that they are open
-module _ (table places : List ℕ) (ws : List ℤ) (out : List ℕ) (run : Run) (r : ℕ) (out' : List ℕ) (t : List ℕ) (o : Looked)
+module _ (table places : List ℕ) (ws : List ℤ) (out : List ℕ) (run : Run) (r : ℕ) (out' : List ℕ) (t : List ℕ) (o : Optional Values)
     (w : t ≡ take run.taken table) (f : Steps.Ends t places ws 0 o) (l : length out ≡ text_bytes)
     (p : Puts out 0 (result_line (looked_of o)) r out') where
   result-text : (P : Program) (q : Pool) → Holds (take run.taken table) places ws P q → Text (result P q) out r out'
@@ -61,7 +63,7 @@ module _ (table places : List ℕ) (ws : List ℤ) (out : List ℕ) (run : Run) 
       text_of out (result_line (main_values P q)) r out' (subst (λ (v : Option (List ℤ)). Puts out 0 (result_line v) r out') e p)
       (omega arith) (omega arith)
 
-  pub ends-choosing : run.phase ≡ Choosing → Ends (memory table places ws) out run r out'
+  ends-choosing : run.phase ≡ Choosing → Ends (memory table places ws) out run r out'
   unfolding ends
   ends-choosing e = record { is = λ st h. go st h }
     where
@@ -71,7 +73,7 @@ module _ (table places : List ℕ) (ws : List ℤ) (out : List ℕ) (run : Run) 
       go (Stage.stopped P q) h = let z = number-of (memory table places ws) run Choosing _ e h in absurd (omega arith)
       go Stage.over h = let z = number-of (memory table places ws) run Choosing _ e h in absurd (omega arith)
 
-  pub ends-stopped : run.phase ≡ Stopped → Ends (memory table places ws) out run r out'
+  ends-stopped : run.phase ≡ Stopped → Ends (memory table places ws) out run r out'
   unfolding ends
   ends-stopped e = record { is = λ st h. go st h }
     where
@@ -80,3 +82,7 @@ module _ (table places : List ℕ) (ws : List ℤ) (out : List ℕ) (run : Run) 
       go (Stage.choosing P q i k) h = let z = number-of (memory table places ws) run Stopped _ e h in absurd (omega arith)
       go (Stage.stopped P q) h = result-text P q h.by.holds
       go Stage.over h = let z = number-of (memory table places ws) run Stopped _ e h in absurd (omega arith)
+
+  pub ends-told : (run.phase ≡ Choosing) ⊎ (run.phase ≡ Stopped) → Ends (memory table places ws) out run r out'
+  ends-told (inl e) = ends-choosing e
+  ends-told (inr e) = ends-stopped e

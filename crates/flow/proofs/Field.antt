@@ -38,14 +38,6 @@ module _ (s t : List ℕ) where
       let y = after-byte a.between b.first in
       let x = ok-offset b.then in omega arith
 
-  -- a number that reads lies within the bytes
-  inside-half : (at : ℕ) {n k : ℕ} → half s at ≡ Parsed.ok n k → at + 1 < length s
-  unfolding half
-  inside-half at e =
-      let a = next-ok _ _ e in let b = next-ok _ _ a.then in
-      let z = after-byte at a.first in
-      let y = (byte-ok 0 255 s a.between _ _ b.first).inside in omega arith
-
   same_word : 4 ≤ length s → word (s ++ t) 0 ≡ word s 0
   unfolding word
   same_word l =

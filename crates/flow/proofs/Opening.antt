@@ -5,8 +5,7 @@ use Rattle.model.specs.Text.{ascii, newline}
 use Rattle.model.specs.Output.{refusal}
 use Rattle.model.proofs.Words.{started-pool}
 use Rattle.model.proofs.Accepted.{accepts, refuses}
-use Rattle.answers.specs.declared.Answer as Code
-use Rattle.answers.specs.declared.Answer.TheVariants.{Given, Refused}
+use Rattle.std.specs.Prelude.{Result, Ok, Err}
 use Rattle.answers.specs.declared.Refusal as Why
 use Rattle.answers.specs.Answers.{refusal_of, answer_of}
 use Rattle.table.proofs.Answered.{left-places}
@@ -16,11 +15,11 @@ use Rattle.puts.proofs.Laws.{then}
 use Rattle.flow.specs.declared.Phase.TheVariants.{Choosing, Over}
 use Rattle.flow.specs.declared.Run.{Run}
 use Rattle.flow.specs.Stages.{opened, opening}
-use Rattle.flow.specs.Stands.{run_at, kept_if, Opens}
+use Rattle.flow.specs.Stands.{run_at, kept, Opens}
 
-module _ (t places places' : List ℕ) (ws' : List ℤ) (out : List ℕ) (at : ℕ) (r : Run) (out' : List ℕ) (a : Code.Answer)
+module _ (t places places' : List ℕ) (ws' : List ℤ) (out : List ℕ) (at : ℕ) (r : Run) (out' : List ℕ) (a : Result (Unit {0}) Why.Refusal)
     (c : CheckedAs t places places' a) where
-  pub opens-given : (k : ℕ) → a ≡ Given → ws' ≡ words_of started → Puts out at (ascii "accepted\n") k out'
+  pub opens-given : (k : ℕ) → a ≡ Ok tt → ws' ≡ words_of started → Puts out at (ascii "accepted\n") k out'
       → r ≡ run_at Choosing (length t) 0 k → Opens t places places' ws' out at r out'
   unfolding opened opening
   opens-given k g w p e =
@@ -32,12 +31,12 @@ module _ (t places places' : List ℕ) (ws' : List ℤ) (out : List ℕ) (at : �
               phase = ap (λ (x : Run). x.phase) e;
               holds = record { table = q; words = w; valid = started-pool z.program q.limits };
               index = ap (λ (x : Run). x.index) e;
-              kind = ap (λ (x : Run). kept_if x.halfway x.kind) e;
+              kind = ap (λ (x : Run). kept x.kind) e;
             });
         text = λ o. let z = accepts t (sym (c.answer o) ∙ ap answer_of g) in rw z.is (rw e p);
       }
 
-  pub opens-refused : (why : Why.Refusal) (d : List ℕ) (k m : ℕ) → a ≡ Refused why → Puts out at (refusal (refusal_of why)) k d
+  pub opens-refused : (why : Why.Refusal) (d : List ℕ) (k m : ℕ) → a ≡ Err why → Puts out at (refusal (refusal_of why)) k d
       → Puts d k newline m out' → r ≡ run_at Over (length t) 0 m → Opens t places places' ws' out at r out'
   unfolding opened opening
   opens-refused why d k m g p q e =

@@ -1,15 +1,17 @@
 -- A byte, whatever it is taken for: the next stage, and what it says.
 use Rattle.std.proofs.Common.{◌≡◌, ℕ, ◌+◌, ◌^◌, ◌<◌, ◌≤◌, Bool, true, false, List, [], ◌∷◌, ◌++◌, length, take, set, ℤ, sym, refl, ap, ◌∙◌, subst, arith, length-set, length-take}
+use mathlib.Core.Logic.{◌⊎◌, inl, inr}
 use mathlib.Core.Option.{none, some}
 use Rattle.model.specs.Rules.{choice}
 use Rattle.model.specs.Calls.{accepted}
 use Rattle.model.proofs.Facts.{none-some, some-injective}
+use Rattle.std.specs.Prelude.{Some, None}
 use Rattle.flow.specs.declared.Phase.{Phase}
 use Rattle.flow.specs.declared.Phase.TheVariants.{Taking, Choosing, Stopped, Over}
 use Rattle.puts.proofs.Laws.{none as nothing}
 use Rattle.flow.specs.declared.Run.{Run}
 use Rattle.flow.specs.Stages.{Stage, whole, opened, opening, chosen, next, says, closed, fine}
-use Rattle.flow.specs.Stands.{Memory, memory, run_at, half_run, kept_if, StandsBy, Stands, index_of, Looks, Opens}
+use Rattle.flow.specs.Stands.{Memory, memory, run_at, half_run, kept, StandsBy, Stands, index_of, Looks, Opens}
 use Rattle.flow.specs.Stands.{Chosen, Steps, TakesByte, TakesAny, Tells}
 use Rattle.flow.proofs.Fronts.{lacking, limits}
 use Rattle.flow.proofs.Taking.{put-behind}
@@ -54,13 +56,38 @@ fine-at (Stage.choosing P p i k) = refl
 fine-at (Stage.stopped P p) = refl
 fine-at Stage.over = refl
 
-module _ (run : Run) (x : Phase) (e : run.phase ≡ x) where
-  pub tells-closed : Tells closed run (closed_at x)
-  tells-closed =
-      record { is = λ m st h. ap closed_at (sym e ∙ phase-of _ _ _ run st h.by) ∙ closed_at_lem st }
+module _ (run : Run) {told : Bool} where
+  tells-closed : told ≡ closed_at run.phase → Tells closed run told
+  tells-closed e = record { is = λ m st h. e ∙ ap closed_at (phase-of _ _ _ run st h.by) ∙ closed_at_lem st }
 
-  pub tells-fine : Tells fine run (fine_at x)
-  tells-fine = record { is = λ m st h. ap fine_at (sym e ∙ phase-of _ _ _ run st h.by) ∙ fine-at st }
+  tells-fine : told ≡ fine_at run.phase → Tells fine run told
+  tells-fine e = record { is = λ m st h. e ∙ ap fine_at (phase-of _ _ _ run st h.by) ∙ fine-at st }
+
+module _ (run : Run) where
+  pub is-closed : (run.phase ≡ Stopped) ⊎ (run.phase ≡ Over) → Tells closed run true
+  is-closed (inl e) = tells-closed run (sym (ap closed_at e))
+  is-closed (inr e) = tells-closed run (sym (ap closed_at e))
+
+  pub is-open : (run.phase ≡ Stopped → ⊥) → (run.phase ≡ Over → ⊥) → Tells closed run false
+  is-open n m = tells-closed run (go run.phase n m)
+    where
+      go : (x : Phase) → (x ≡ Stopped → ⊥) → (x ≡ Over → ⊥) → false ≡ closed_at x
+      go Taking n m = refl
+      go Choosing n m = refl
+      go Stopped n m = absurd (n refl)
+      go Over n m = absurd (m refl)
+
+  pub is-fine : run.phase ≡ Choosing → Tells fine run true
+  is-fine e = tells-fine run (sym (ap fine_at e))
+
+  pub no-fine : (run.phase ≡ Choosing → ⊥) → Tells fine run false
+  no-fine n = tells-fine run (go run.phase n)
+    where
+      go : (x : Phase) → (x ≡ Choosing → ⊥) → false ≡ fine_at x
+      go Taking n = refl
+      go Choosing n = absurd (n refl)
+      go Stopped n = refl
+      go Over n = refl
 
 -- one phase is not another
 abbrev pub number_of : Phase → ℕ
@@ -83,9 +110,15 @@ module _ (m : Memory) (out : List ℕ) (run : Run) (b : ℕ) (r : Run) (m' : Mem
       go (Stage.stopped P p) h = let z = number-of m run Taking _ e h in absurd (omega arith)
       go Stage.over h = let z = number-of m run Taking _ e h in absurd (omega arith)
 
+-- the kind of a choice has come, and nothing else changes
+pub half-is : (run : Run) (kind : ℕ) → run.phase ≡ Choosing
+    → ◌≡◌ {A = Run} (record { phase = run.phase; taken = run.taken; index = run.index; kind = Some kind; said = run.said }) (half_run run kind)
+half-is run kind e =
+    ap (λ (x : Phase). record { phase = x; taken = run.taken; index = run.index; kind = Some kind; said = run.said }) e
+
 -- a choice's kind
 module _ (m : Memory) (out : List ℕ) (run : Run) (b : ℕ) (r : Run) where
-  pub put-half : run.phase ≡ Choosing → run.halfway ≡ false → r ≡ half_run run b → TakesAny m out run b r m out
+  pub put-half : run.phase ≡ Choosing → run.kind ≡ None → r ≡ half_run run b → TakesAny m out run b r m out
   unfolding next says
   put-half e f q = record { is = λ st h i. go st h }
     where
@@ -101,30 +134,30 @@ module _ (m : Memory) (out : List ℕ) (run : Run) (b : ℕ) (r : Run) where
             text = nothing;
           })
       go (Stage.choosing P p i (some kind)) h =
-          none-some (ap (λ (x : Bool). kept_if x run.kind) (sym f) ∙ h.by.kind)
+          none-some (ap kept (sym f) ∙ h.by.kind)
       go (Stage.stopped P p) h = let z = number-of m run Choosing _ e h in absurd (omega arith)
       go Stage.over h = let z = number-of m run Choosing _ e h in absurd (omega arith)
 
 -- its thread
 module _ (table places : List ℕ) (ws : List ℤ) (out : List ℕ) (run : Run) (b : ℕ) (r : Run) (ws' : List ℤ) (out' : List ℕ) where
-  pub put-choice : (t : List ℕ) → t ≡ take run.taken table → run.phase ≡ Choosing → run.halfway ≡ true
-      → Chosen t places ws out run b r ws' out' → TakesAny (memory table places ws) out run b r (memory table places ws') out'
+  pub put-choice : (t : List ℕ) (has : ℕ) → t ≡ take run.taken table → run.phase ≡ Choosing → run.kind ≡ Some has
+      → Chosen t places ws out run has b r ws' out' → TakesAny (memory table places ws) out run b r (memory table places ws') out'
   unfolding next says
-  put-choice t w e f c = record { is = λ st h i. go st h i }
+  put-choice t has w e f c = record { is = λ st h i. go st h i }
     where
       go : (st : Stage) → Stands (memory table places ws) run st → index_of st + 1 < 2 ^ 64
           → Steps (memory table places ws) out run b r (memory table places ws') out' st
       go (Stage.taking s) h l = let z = number-of (memory table places ws) run Choosing _ e h in absurd (omega arith)
-      go (Stage.choosing P p i none) h l = none-some (sym h.by.kind ∙ ap (λ (x : Bool). kept_if x run.kind) f)
+      go (Stage.choosing P p i none) h l = none-some (sym h.by.kind ∙ ap kept f)
       go (Stage.choosing P p i (some kind)) h l =
-          let k : run.kind ≡ kind = some-injective (ap (λ (x : Bool). kept_if x run.kind) (sym f) ∙ h.by.kind) in
+          let k : has ≡ kind = some-injective (ap kept (sym f) ∙ h.by.kind) in
           let j : run.index ≡ i = h.by.index in
           let held = rw (← w) at h.by.holds in
           rw (← k, ← j)
           (record {
             stage = record {
               taken = rw c.taken h.taken;
-              by = subst (λ (x : List ℕ). StandsBy x places ws' r (chosen P p run.index (choice P p run.kind b)))
+              by = subst (λ (x : List ℕ). StandsBy x places ws' r (chosen P p run.index (choice P p has b)))
                   (w ∙ ap (λ (n : ℕ). take n table) (sym c.taken)) (c.stage P p held (rw (← j) at l));
             };
             text = c.text P p held;
@@ -134,7 +167,7 @@ module _ (table places : List ℕ) (ws : List ℤ) (out : List ℕ) (run : Run) 
 
 -- after a refusal
 module _ (m : Memory) (out : List ℕ) (run : Run) (b : ℕ) where
-  pub put-stopped : run.phase ≡ Stopped → TakesAny m out run b run m out
+  put-stopped : run.phase ≡ Stopped → TakesAny m out run b run m out
   unfolding next says
   put-stopped e = record { is = λ st h i. go st h }
     where
@@ -144,7 +177,7 @@ module _ (m : Memory) (out : List ℕ) (run : Run) (b : ℕ) where
       go (Stage.stopped P p) h = record { stage = h; text = nothing }
       go Stage.over h = let z = number-of m run Stopped _ e h in absurd (omega arith)
 
-  pub put-over : run.phase ≡ Over → TakesAny m out run b run m out
+  put-over : run.phase ≡ Over → TakesAny m out run b run m out
   unfolding next says
   put-over e = record { is = λ st h i. go st h }
     where
@@ -153,6 +186,10 @@ module _ (m : Memory) (out : List ℕ) (run : Run) (b : ℕ) where
       go (Stage.choosing P p i k) h = let z = number-of m run Over _ e h in absurd (omega arith)
       go (Stage.stopped P p) h = let z = number-of m run Over _ e h in absurd (omega arith)
       go Stage.over h = record { stage = h; text = nothing }
+
+  pub put-closed : (run.phase ≡ Stopped) ⊎ (run.phase ≡ Over) → TakesAny m out run b run m out
+  put-closed (inl e) = put-stopped e
+  put-closed (inr e) = put-over e
 
 -- a byte makes the table whole, or not yet
 module _ (s : List ℕ) (b : ℕ) where

@@ -1,7 +1,8 @@
 -- The table is taken byte by byte, until it is whole.
-use Rattle.std.proofs.Common.{◌≡◌, ℕ, zero, suc, ◌+◌, ◌-◌, ◌<◌, ◌≤◌, Bool, true, false, not, ◌||◌, leb, List, [], ◌∷◌, ◌++◌, length, get_or, take, drop, set, sym, refl, ap, ◌∙◌, add-one, arith, take-append-drop, length-take, take_all}
+use Rattle.std.proofs.Common.{◌≡◌, ℕ, zero, suc, ◌+◌, ◌<◌, ◌≤◌, min, Bool, true, false, not, ◌||◌, leb, List, [], ◌∷◌, ◌++◌, length, get_or, take, drop, set, sym, refl, ap, ◌∙◌, add-one, arith, take-append-drop, length-take, take_all}
+use mathlib.Core.Logic.{◌⊎◌, inl, inr}
 use Rattle.model.specs.Read.{length_field}
-use Rattle.model.proofs.Facts.{le-leb, lt-leb}
+use Rattle.model.proofs.Facts.{le-leb, lt-leb, leb-true, leb-false}
 use Rattle.code.specs.Bytes.{word_at}
 use Rattle.table.proofs.Answered.{field_is}
 use Rattle.flow.specs.Stages.{whole, limited}
@@ -9,11 +10,14 @@ use Rattle.flow.specs.Stands.{Looks}
 use Rattle.flow.proofs.Field.{same-field}
 
 -- the front of a slice
-pub front-part : (s : List ℕ) (n : ℕ) → take (n - 0) s ≡ take n s
-front-part s n = let e : n - 0 ≡ n = omega arith in ap (λ (k : ℕ). take k s) e
-
-pub front-all : (s : List ℕ) (n : ℕ) → length s ≤ n → s ≡ take n s
-front-all s n h = sym (take_all n s h)
+pub front-part : (s : List ℕ) (n : ℕ) {m : ℕ} → m ≡ min n (length s) → take m s ≡ take n s
+front-part s n {m} e = go (leb n (length s)) refl
+  where
+    go : (b : Bool) → leb n (length s) ≡ b → take m s ≡ take n s
+    go true t = let h : m ≡ n = omega (arith, leb-true n (length s) t) in ap (λ (k : ℕ). take k s) h
+    go false t =
+        let h : length s < n = leb-false n (length s) t in
+        take_all m s (omega arith) ∙ sym (take_all n s (omega arith))
 
 -- a byte is put behind the first n
 put_next : (s : List ℕ) (n b : ℕ) → n < length s → take (suc n) (set s n b) ≡ take n s ++ b ∷ []
@@ -46,13 +50,10 @@ module _ (table : List ℕ) (n : ℕ) where
         let k : length (take n table) ≡ n = let z = length-take n table in omega arith in
         rw (field l, k, e, le-leb 4 n four) refl
 
-    pub small : w < 6 → Looks table n true
+    pub outside : (w < 6) ⊎ ((6 ≤ w) × (16384 < w)) → Looks table n true
     unfolding limited
-    small h l = sym (by-limits false (rw (lt-leb 6 w h) refl) l)
-
-    pub large : 16384 < w → Looks table n true
-    unfolding limited
-    large h l = sym (by-limits false (rw (le-leb 6 w (omega arith), lt-leb w 16384 h) refl) l)
+    outside (inl h) l = sym (by-limits false (rw (lt-leb 6 w h) refl) l)
+    outside (inr (a, h)) l = sym (by-limits false (rw (le-leb 6 w a, lt-leb w 16384 h) refl) l)
 
     pub between : 6 ≤ w → w ≤ 16384 → Looks table n (leb w n)
     unfolding limited

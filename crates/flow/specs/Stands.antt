@@ -1,5 +1,5 @@
 -- The lent memory at a stage, and the contracts: for every stage at which the memory stands.
-use Rattle.std.specs.Prelude.{◌≡◌, ℕ, ◌+◌, ◌*◌, ◌^◌, ◌<◌, ◌≤◌, Bool, true, false, List, length, take, drop, ℤ}
+use Rattle.std.specs.Prelude.{◌≡◌, ℕ, ◌+◌, ◌*◌, ◌^◌, ◌<◌, ◌≤◌, Bool, true, false, List, length, take, drop, ℤ, Option as Optional, Some, None}
 use Rattle.std.proofs.Math.Option.{Option, none, some}
 use Rattle.model.specs.Syntax.{Program}
 use Rattle.model.specs.Pool.{Pool, words_of, is_pool}
@@ -23,19 +23,19 @@ text_bytes = 96 * piece_bytes
 
 -- a run before a byte of the table or a choice's kind, and one that has the kind
 abbrev pub run_at : Phase → ℕ → ℕ → ℕ → Run
-run_at p taken index said = record { phase = p; taken = taken; index = index; halfway = false; kind = 0; said = said }
+run_at p taken index said = record { phase = p; taken = taken; index = index; kind = None; said = said }
 
 abbrev pub half_run : Run → ℕ → Run
-half_run r kind = record { phase = Choosing; taken = r.taken; index = r.index; halfway = true; kind = kind; said = r.said }
+half_run r kind = record { phase = Choosing; taken = r.taken; index = r.index; kind = Some kind; said = r.said }
 
 -- a run at the start of a piece's text
 abbrev pub restart : Run → Run
-restart r = record { phase = r.phase; taken = r.taken; index = r.index; halfway = r.halfway; kind = r.kind; said = 0 }
+restart r = record { phase = r.phase; taken = r.taken; index = r.index; kind = r.kind; said = 0 }
 
 -- the kind of the next choice, if it has come
-abbrev pub kept_if : Bool → ℕ → Option ℕ
-kept_if true kind = some kind
-kept_if false kind = none
+abbrev pub kept : Optional ℕ → Option ℕ
+kept (Some kind) = some kind
+kept None = none
 
 -- what is lent from piece to piece
 pub record Memory : Type 0 where
@@ -63,7 +63,7 @@ pub record Chooses (t places : List ℕ) (ws : List ℤ) (r : Run) (P : Program)
   pub phase : r.phase ≡ Choosing
   pub holds : Holds t places ws P p
   pub index : r.index ≡ i
-  pub kind : kept_if r.halfway r.kind ≡ k
+  pub kind : kept r.kind ≡ k
 
 pub record Stops (t places : List ℕ) (ws : List ℤ) (r : Run) (P : Program) (p : Pool) : Type 0 where
   pub phase : r.phase ≡ Stopped
@@ -99,13 +99,13 @@ pub record Opens (t places places' : List ℕ) (ws' : List ℤ) (out : List ℕ)
   pub text : places ≡ nowhere → Puts out at (opening (accepted t)) r.said out'
 
 -- a choice is made or refused: the stage, and its line
-pub record Chosen (t places : List ℕ) (ws : List ℤ) (out : List ℕ) (run : Run) (thread : ℕ) (r : Run) (ws' : List ℤ) (out' : List ℕ)
+pub record Chosen (t places : List ℕ) (ws : List ℤ) (out : List ℕ) (run : Run) (kind thread : ℕ) (r : Run) (ws' : List ℤ) (out' : List ℕ)
     : Type 0 where
   pub taken : r.taken ≡ run.taken
   pub stage : (P : Program) (p : Pool) → Holds t places ws P p → run.index + 1 < 2 ^ 64
-      → StandsBy t places ws' r (chosen P p run.index (choice P p run.kind thread))
+      → StandsBy t places ws' r (chosen P p run.index (choice P p kind thread))
   pub text : (P : Program) (p : Pool) → Holds t places ws P p
-      → Puts out run.said (choice_line run.index run.kind thread (answered (choice P p run.kind thread))) r.said out'
+      → Puts out run.said (choice_line run.index kind thread (answered (choice P p kind thread))) r.said out'
 
 -- a byte: the next stage, and what it says
 pub record Steps (m : Memory) (out : List ℕ) (run : Run) (b : ℕ) (r : Run) (m' : Memory) (out' : List ℕ) (st : Stage) : Type 0 where

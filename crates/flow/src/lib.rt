@@ -5,15 +5,14 @@
 ghost use Rattle.std.specs.Prelude.{◌≡◌, take as List·take};
 ghost use Rattle.flow.specs.declared.Phase.TheVariants.{Taking};
 ghost use Rattle.flow.specs.Stages as Stages;
-ghost use Rattle.flow.specs.Stands.{memory, run_at, half_run, restart, Looks, Opens, Chosen, TakesByte, TakesAny, Feeds, Ends, Tells};
+ghost use Rattle.flow.specs.Stands.{memory, run_at, Looks, Opens, Chosen, TakesByte, TakesAny, Feeds, Ends, Tells};
 
-use answers::{Answer, No, Refusal};
+use answers::{No, Refusal};
 use places::Places;
-use pool::Pool;
-use steps::Made;
+use pool::Words;
 
 // What the bytes that come are taken for: the table's, choices', or nothing, since a choice or the table was refused.
-#[derive(Clone, Copy)]
+#[derive(Clone, Copy, PartialEq, Eq, Debug)]
 pub enum Phase {
     Taking,
     Choosing,
@@ -23,13 +22,12 @@ pub enum Phase {
 
 // How many bytes of the table have come; the next choice's index, and its kind once that has come; and where the text of the piece
 // ends.
-#[derive(Clone, Copy)]
+#[derive(Clone, Copy, PartialEq, Eq, Debug)]
 pub struct Run {
     pub phase: Phase,
     pub taken: usize,
     pub index: u64,
-    pub halfway: bool,
-    pub kind: u8,
+    pub kind: Option<u8>,
     pub said: usize,
 }
 
@@ -51,7 +49,7 @@ impl Bytes {
 pub fn front(s: &[u8], n: usize) -> &[u8]
     ensures { result.now ≡ List·take n s.now }
 {
-    if n <= s.len() { &s[0..n] } else { s }
+    &s[..n.min(s.len())]
 }
 
 // A run at a byte of the table, or before a choice's kind.
@@ -62,8 +60,7 @@ fn run_at(phase: Phase, taken: usize, index: u64, said: usize) -> Run
         phase,
         taken,
         index,
-        halfway: false,
-        kind: 0,
+        kind: None,
         said,
     }
 }
@@ -75,35 +72,6 @@ pub fn begin() -> Run
     run_at(Phase::Taking, 0, 0, 0)
 }
 
-// The text of a piece begins.
-fn restarted(run: Run) -> Run
-    ensures { result ≡ restart run }
-{
-    let phase = run.phase;
-    Run {
-        phase,
-        taken: run.taken,
-        index: run.index,
-        halfway: run.halfway,
-        kind: run.kind,
-        said: 0,
-    }
-}
-
-// A choice's kind has come.
-fn half_way(run: Run, kind: u8) -> Run
-    ensures { result ≡ half_run run kind }
-{
-    Run {
-        phase: Phase::Choosing,
-        taken: run.taken,
-        index: run.index,
-        halfway: true,
-        kind,
-        said: run.said,
-    }
-}
-
 // Whether the first n bytes are a whole table: as many as their length field says, or that is no table's length.
 fn whole(table: &[u8], n: usize) -> bool
     ensures { Looks table.now n result }
@@ -112,33 +80,24 @@ fn whole(table: &[u8], n: usize) -> bool
         return false;
     }
     let size = table::length_field(table) as usize;
-    if size < Bytes::LEAST {
-        return true;
-    }
-    if Bytes::TABLE < size {
+    if size < Bytes::LEAST || Bytes::TABLE < size {
         return true;
     }
     size <= n
 }
 
 // A whole table is checked, and a pool started where it is accepted.
-fn open(
-    t: &[u8],
-    places: &mut Places,
-    ws: &mut [i32; Pool::WORDS],
-    out: &mut [u8],
-    said: usize,
-) -> Run
+fn open(t: &[u8], places: &mut Places, ws: &mut Words, out: &mut [u8], said: usize) -> Run
     ensures { Opens t.now places.old places.new ws.new out.old said result
         out.new }
 {
     match verifier::check_placed(t, places) {
-        Answer::Given => {
+        Ok(()) => {
             pool::start_pool(ws);
             let k = puts::bytes(out, said, b"accepted\n");
             run_at(Phase::Choosing, t.len(), 0, k)
         }
-        Answer::Refused(why) => {
+        Err(why) => {
             let k = lines::refusal(out, said, why);
             let k = text::line(out, k);
             run_at(Phase::Over, t.len(), 0, k)
@@ -146,11 +105,12 @@ fn open(
     }
 }
 
-// A byte of the table.
+// A byte of the table. The table, its places and the pool stay three parameters here: `feed` and `end`, which docs/PROMISES.md names, are
+// lent them so.
 fn take(
     table: &mut [u8; Bytes::TABLE],
     places: &mut Places,
-    ws: &mut [i32; Pool::WORDS],
+    ws: &mut Words,
     out: &mut [u8],
     run: Run,
     b: u8,
@@ -173,24 +133,20 @@ fn take(
 fn choose(
     t: &[u8],
     places: &Places,
-    ws: &mut [i32; Pool::WORDS],
+    ws: &mut Words,
     out: &mut [u8],
     run: Run,
+    kind: u8,
     thread: u8,
 ) -> Run
-    ensures { Chosen t.now places.now ws.old out.old run thread result ws.new
-        out.new }
+    ensures { Chosen t.now places.now ws.old out.old run kind thread result
+        ws.new out.new }
 {
-    let made = steps::choice(t, places, ws, run.kind as u32, thread as u32);
-    let k = lines::choice(out, run.said, run.index, run.kind, thread, made);
+    let made = steps::choice(t, places, ws, kind as u32, thread as u32);
+    let k = lines::choice(out, run.said, run.index, kind, thread, made);
     match made {
-        Made::Rule(_) => run_at(
-            Phase::Choosing,
-            run.taken,
-            std::num::wrapping_add_u64(run.index, 1),
-            k,
-        ),
-        Made::Refused(_) => run_at(Phase::Stopped, run.taken, run.index, k),
+        Ok(_) => run_at(Phase::Choosing, run.taken, run.index.wrapping_add(1), k),
+        Err(_) => run_at(Phase::Stopped, run.taken, run.index, k),
     }
 }
 
@@ -198,7 +154,7 @@ fn choose(
 fn put(
     table: &mut [u8; Bytes::TABLE],
     places: &mut Places,
-    ws: &mut [i32; Pool::WORDS],
+    ws: &mut Words,
     out: &mut [u8],
     run: Run,
     b: u8,
@@ -206,18 +162,16 @@ fn put(
     ensures { TakesAny (memory table.old places.old ws.old) out.old run b result
         (memory table.new places.new ws.new) out.new }
 {
-    let phase = run.phase;
-    match phase {
+    match run.phase {
         Phase::Taking => take(table, places, ws, out, run, b),
-        Phase::Choosing => {
-            if run.halfway {
-                choose(front(table, run.taken), places, ws, out, run, b)
-            } else {
-                half_way(run, b)
-            }
-        }
-        Phase::Stopped => run,
-        Phase::Over => run,
+        Phase::Choosing => match run.kind {
+            Some(kind) => choose(front(table, run.taken), places, ws, out, run, kind, b),
+            None => Run {
+                kind: Some(b),
+                ..run
+            },
+        },
+        Phase::Stopped | Phase::Over => run,
     }
 }
 
@@ -225,7 +179,7 @@ fn put(
 pub fn feed(
     table: &mut [u8; Bytes::TABLE],
     places: &mut Places,
-    ws: &mut [i32; Pool::WORDS],
+    ws: &mut Words,
     out: &mut [u8; Bytes::TEXT],
     run: Run,
     piece: &[u8],
@@ -233,11 +187,9 @@ pub fn feed(
     ensures { Feeds (memory table.old places.old ws.old) out.old run piece.now
         result (memory table.new places.new ws.new) out.new }
 {
-    let mut r = restarted(run);
-    let mut i = 0;
-    while i < piece.len() {
-        r = put(table, places, ws, out, r, piece[i]);
-        i += 1;
+    let mut r = Run { said: 0, ..run };
+    for b in piece {
+        r = put(table, places, ws, out, r, *b);
     }
     r
 }
@@ -246,25 +198,19 @@ pub fn feed(
 pub fn end(
     table: &[u8; Bytes::TABLE],
     places: &Places,
-    ws: &[i32; Pool::WORDS],
+    ws: &Words,
     out: &mut [u8; Bytes::TEXT],
     run: Run,
 ) -> usize
     ensures { Ends (memory table.now places.now ws.now) out.old run result
         out.new }
 {
-    let phase = run.phase;
-    match phase {
+    match run.phase {
         Phase::Taking => {
             let k = lines::refusal(out, 0, Refusal::Plain(No::SIZE));
             text::line(out, k)
         }
-        Phase::Choosing => lines::result(
-            out,
-            0,
-            steps::ended(front(table, run.taken), places, ws, 0),
-        ),
-        Phase::Stopped => lines::result(
+        Phase::Choosing | Phase::Stopped => lines::result(
             out,
             0,
             steps::ended(front(table, run.taken), places, ws, 0),
@@ -277,24 +223,12 @@ pub fn end(
 pub fn closed(run: Run) -> bool
     ensures { Tells Stages.closed run result }
 {
-    let phase = run.phase;
-    match phase {
-        Phase::Taking => false,
-        Phase::Choosing => false,
-        Phase::Stopped => true,
-        Phase::Over => true,
-    }
+    matches!(run.phase, Phase::Stopped | Phase::Over)
 }
 
 // Whether the table was accepted and every choice made.
 pub fn fine(run: Run) -> bool
     ensures { Tells Stages.fine run result }
 {
-    let phase = run.phase;
-    match phase {
-        Phase::Taking => false,
-        Phase::Choosing => true,
-        Phase::Stopped => false,
-        Phase::Over => false,
-    }
+    matches!(run.phase, Phase::Choosing)
 }

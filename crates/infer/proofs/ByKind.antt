@@ -1,71 +1,73 @@
--- A transfer at an offset, by its kind: what it uses, and the nesting of its targets.
-use Prim.Native.Nat.{ℕ, zero, suc, ◌<◌}
-use mathlib.Core.Path.{◌≡◌, refl, ◌∙◌, ap}
+-- A transfer at an offset, by its kind: what it uses, the nesting of its targets, and where they are named.
+use Prim.Native.Nat.{ℕ}
+use mathlib.Core.Path.{◌≡◌, refl, sym}
 use mathlib.Core.List.{List, []}
-use native.Mathlib.Omega.{arith}
-use Rattle.model.specs.Syntax.{uses}
+use mathlib.Core.Logic.{◌⊎◌, inl, inr}
+use Rattle.std.specs.Prelude.{min}
+use Rattle.code.specs.declared.Kind.{Kind}
+use Rattle.code.specs.declared.Kind.TheVariants.{Goto, If, Call, Return, Spork, Spoin}
+use Rattle.code.specs.Kinds.{number_of}
+use Rattle.code.proofs.KindLaws.{by-kind}
+use Rattle.model.specs.Syntax.{uses, targets}
 use Rattle.code.specs.Bytes.{byte_at, past}
-use Rattle.code.specs.Code.{arguments_at, expression_at, transfer_of, transfer_at}
-use Rattle.code.proofs.Targets.{past-past, is-of}
+use Rattle.code.specs.Code.{run, arguments_at, expression_at, expression_end, spawn_end, transfer_of, transfer_at}
+use Rattle.code.proofs.Targets.{past-past, names-goto, names-if, names-call, names-return, names-spork, names-spoin}
 use Rattle.inference.specs.Infer.{opened, closed, under, used_by}
 
--- above 3 nothing is used, below 4 the nesting stays, above 4 is a spoin
-unused : (kind : ℕ) (s : List ℕ) (at : ℕ) → 3 < kind → used_by (transfer_of kind s at) ≡ []
-unfolding transfer_of used_by
-unused zero s at h = absurd (omega arith)
-unused (suc zero) s at h = absurd (omega arith)
-unused (suc (suc zero)) s at h = absurd (omega arith)
-unused (suc (suc (suc zero))) s at h = absurd (omega arith)
-unused (suc (suc (suc (suc zero)))) s at h = refl
-unused (suc (suc (suc (suc (suc kind))))) s at h = refl
-
-same-under : (kind : ℕ) (s : List ℕ) (at : ℕ) (ρ : List ℕ) → kind < 4 → under ρ (transfer_of kind s at) ≡ ρ
-unfolding transfer_of under
-same-under zero s at ρ h = refl
-same-under (suc zero) s at ρ h = refl
-same-under (suc (suc zero)) s at ρ h = refl
-same-under (suc (suc (suc zero))) s at ρ h = refl
-same-under (suc (suc (suc (suc zero)))) s at ρ h = absurd (omega arith)
-same-under (suc (suc (suc (suc (suc kind))))) s at ρ h = absurd (omega arith)
-
-closed-under : (kind : ℕ) (s : List ℕ) (at : ℕ) (ρ : List ℕ) → 4 < kind → under ρ (transfer_of kind s at) ≡ closed ρ
-unfolding transfer_of under
-closed-under zero s at ρ h = absurd (omega arith)
-closed-under (suc zero) s at ρ h = absurd (omega arith)
-closed-under (suc (suc zero)) s at ρ h = absurd (omega arith)
-closed-under (suc (suc (suc zero))) s at ρ h = absurd (omega arith)
-closed-under (suc (suc (suc (suc zero)))) s at ρ h = absurd (omega arith)
-closed-under (suc (suc (suc (suc (suc kind))))) s at ρ h = refl
-
-module _ (s : List ℕ) (at : ℕ) {first kind : ℕ} (f : first ≡ past at 1) (k : kind ≡ byte_at s at) where
+module _ (s : List ℕ) (at : ℕ) {first : ℕ} (f : first ≡ past at 1) {g : Kind} (k : number_of g ≡ min (byte_at s at) 5) where
   -- the temporaries that it uses itself
-  pub uses-goto : {x : ℕ} → kind ≡ 0 → x ≡ past first 1 → used_by (transfer_at s at) ≡ arguments_at s x
+  pub uses-behind : {x : ℕ} → (g ≡ Goto) ⊎ (g ≡ Call) → x ≡ past first 1 → used_by (transfer_at s at) ≡ arguments_at s x
   unfolding transfer_of used_by
-  uses-goto z e = rw (is-of s at f k, z, e)
+  uses-behind (inl e) z = rw (by-kind s at k f e, z)
+  uses-behind (inr e) z = rw (by-kind s at k f e, z)
 
-  pub uses-if : kind ≡ 1 → used_by (transfer_at s at) ≡ uses (expression_at s first)
+  pub uses-if : g ≡ If → used_by (transfer_at s at) ≡ uses (expression_at s first)
   unfolding transfer_of used_by
-  uses-if z = rw (is-of s at f k, z)
+  uses-if e = rw (by-kind s at k f e)
 
-  pub uses-call : {x : ℕ} → kind ≡ 2 → x ≡ past first 1 → used_by (transfer_at s at) ≡ arguments_at s x
+  pub uses-return : g ≡ Return → used_by (transfer_at s at) ≡ arguments_at s first
   unfolding transfer_of used_by
-  uses-call z e = rw (is-of s at f k, z, e)
+  uses-return e = rw (by-kind s at k f e)
 
-  pub uses-return : kind ≡ 3 → used_by (transfer_at s at) ≡ arguments_at s first
+  pub uses-none : (g ≡ Spork) ⊎ (g ≡ Spoin) → used_by (transfer_at s at) ≡ []
   unfolding transfer_of used_by
-  uses-return z = rw (is-of s at f k, z)
-
-  pub uses-none : 3 < kind → used_by (transfer_at s at) ≡ []
-  uses-none z = ap used_by (is-of s at f k) ∙ unused kind s first z
+  uses-none (inl e) = rw (by-kind s at k f e)
+  uses-none (inr e) = rw (by-kind s at k f e)
 
 -- the nesting of its targets
-module _ (s : List ℕ) (at : ℕ) {kind : ℕ} (k : kind ≡ byte_at s at) (ρ : List ℕ) where
-  pub under_same : kind < 4 → under ρ (transfer_at s at) ≡ ρ
-  under_same z = ap (under ρ) (is-of s at refl k) ∙ same-under kind s (past at 1) ρ z
-
-  pub under-opened : {j : ℕ} → kind ≡ 4 → j ≡ past at 2 → under ρ (transfer_at s at) ≡ opened ρ (byte_at s j)
+module _ (s : List ℕ) (at : ℕ) {g : Kind} (k : number_of g ≡ min (byte_at s at) 5) (ρ : List ℕ) where
+  pub under_same : (g ≡ Goto) ⊎ ((g ≡ If) ⊎ ((g ≡ Call) ⊎ (g ≡ Return))) → under ρ (transfer_at s at) ≡ ρ
   unfolding transfer_of under
-  under-opened z e = rw (is-of s at refl k, z, e, past-past at)
+  under_same (inl e) = rw (by-kind s at k refl e)
+  under_same (inr (inl e)) = rw (by-kind s at k refl e)
+  under_same (inr (inr (inl e))) = rw (by-kind s at k refl e)
+  under_same (inr (inr (inr e))) = rw (by-kind s at k refl e)
 
-  pub under-closed : 4 < kind → under ρ (transfer_at s at) ≡ closed ρ
-  under-closed z = ap (under ρ) (is-of s at refl k) ∙ closed-under kind s (past at 1) ρ z
+  pub under-opened : {j : ℕ} → g ≡ Spork → j ≡ past at 2 → under ρ (transfer_at s at) ≡ opened ρ (byte_at s j)
+  unfolding transfer_of under
+  under-opened e d = rw (by-kind s at k refl e, d, past-past at)
+
+  pub under-closed : g ≡ Spoin → under ρ (transfer_at s at) ≡ closed ρ
+  unfolding transfer_of under
+  under-closed e = rw (by-kind s at k refl e)
+
+-- where its targets are named
+module _ (s : List ℕ) (at : ℕ) {first : ℕ} (f : first ≡ past at 1) {g : Kind} (k : number_of g ≡ min (byte_at s at) 5) where
+  pub at-one : (g ≡ Goto) ⊎ (g ≡ Spork) → run s first 1 ≡ targets (transfer_at s at)
+  unfolding run
+  at-one (inl e) = sym (names-goto s at f k e)
+  at-one (inr e) = sym (names-spork s at f k e)
+
+  pub at-if : {x : ℕ} → g ≡ If → x ≡ expression_end s first → run s x 2 ≡ targets (transfer_at s at)
+  at-if e d = sym (names-if s at f k e d)
+
+  pub at-call : {x : ℕ} → g ≡ Call → x ≡ spawn_end s first → run s x 1 ≡ targets (transfer_at s at)
+  unfolding run
+  at-call e d = sym (names-call s at f k e d)
+
+  pub at-return : g ≡ Return → run s first 0 ≡ targets (transfer_at s at)
+  unfolding run
+  at-return e = sym (names-return s at f k e)
+
+  pub at-spoin : g ≡ Spoin → run s first 2 ≡ targets (transfer_at s at)
+  at-spoin e = sym (names-spoin s at f k e)

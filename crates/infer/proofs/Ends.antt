@@ -1,10 +1,9 @@
 -- All marks of a function, and all scopes: the entry's scope, and what the two calls leave.
-use Prim.Native.Nat.{ℕ, ◌*◌, ◌-◌, ◌%◌, ◌^◌, ◌≤◌, ◌<◌}
+use Prim.Native.Nat.{ℕ, ◌*◌, ◌-◌, ◌%◌, ◌^◌, ◌<◌}
 use mathlib.Core.Path.{◌≡◌, sym, ◌∙◌, ap, subst}
 use mathlib.Core.List.{List}
 use native.Mathlib.Omega.{arith}
 use native.Mathlib.Nat.{mod-eq_of_lt}
-use lib.Pow.{pow_pos}
 use lib.ListN.{length, replicate, length-replicate}
 use Rattle.model.specs.Sets.{below}
 use Rattle.model.specs.Syntax.{Function, Program}
@@ -13,14 +12,12 @@ use Rattle.model.specs.Read as Read
 use Rattle.model.proofs.Facts.{none-some, some-injective, each_at}
 use Rattle.words.proofs.Sets.{low}
 use Rattle.code.specs.Bytes.{byte_at}
-use Rattle.places.specs.declared.Place.{Place}
-use Rattle.places.specs.declared.Place.TheVariants.{At, Nowhere}
-use Rattle.places.specs.Places.{FindsFunction}
+use Rattle.places.specs.Places.{Place, FindsFunction}
 use Rattle.inference.specs.Infer.{marks, given, needed, scopes, entered, downward, sweep, rounds, need, grow}
 use Rattle.scopings.specs.Words.{len, blocks}
 use Rattle.scopings.specs.Changes.{scoped, Whole}
 use Rattle.scopings.proofs.Changing.{whole-scoped}
-use Rattle.infer.specs.declared.Lowest.{Lowest}
+use Rattle.std.specs.Prelude.{Option, Some, None}
 use Rattle.infer.specs.Infers.{Known, Reaches, Infers}
 use Rattle.infer.specs.Nestings.{Ended, Placed, Begun, Counts, Reached, Lows}
 use Rattle.infer.specs.Needs.{Enters, NeedsAll, Bounded, Settles}
@@ -31,18 +28,15 @@ pub below-is : (n : ℕ) → 1 * 2 ^ (n % 16) % 65536 - 1 ≡ below (n % 16)
 unfolding below
 below-is n = ap (λ (k : ℕ). k - 1) (low (n % 16) (omega arith))
 
-pub some-bit : (n : ℕ) → 1 ≤ 1 * 2 ^ (n % 16) % 65536
-some-bit n = rw (low (n % 16) (omega arith)) (pow_pos (n % 16))
-
 -- the entry's scope
 module _ (s places : List ℕ) (f : ℕ) {r : Place} (find : FindsFunction places f r) where
-  pub given-nowhere : r ≡ Nowhere → Enters s places f 0
+  pub given-nowhere : r ≡ None → Enters s places f 0
   given-nowhere e =
       record {
         is = λ P F w. none-some (sym (subst (FindsFunction places f) e find s P Read.bare w.placed) ∙ w.there);
       }
 
-  pub given-at : {p n v : ℕ} → r ≡ At p → n ≡ byte_at s p → v ≡ below (n % 16) → Enters s places f v
+  pub given-at : {p n v : ℕ} → r ≡ Some p → n ≡ byte_at s p → v ≡ below (n % 16) → Enters s places f v
   given-at {p} {n} {v} e d c =
       record {
         is = λ P F w.
@@ -76,7 +70,7 @@ module _ {s places transfers : List ℕ} {f n : ℕ} {words words₁ words₂ : 
       let d : n ≡ length (replicate {A = ℕ} n 0) = sym (length-replicate {A = ℕ} n 0) in
       rw (← e) (r.is P F (as-ended k) (entered n) (replicate n 0) d (b.is n l (omega (arith, (limits k).few_blocks))))
 
-  pub reaches : {v : Lowest} → Lows words₂ n v → Reaches s places transfers f words v words₂
+  pub reaches : {v : Option ℕ} → Lows words₂ n v → Reaches s places transfers f words v words₂
   reaches o =
       record {
         is = λ P F k l.

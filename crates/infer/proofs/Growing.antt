@@ -1,34 +1,36 @@
 -- What the scopes of a block's targets need, and rounds over the blocks.
 use Prim.Native.Nat.{ℕ, ◌*◌, ◌-◌, ◌≤◌, ◌<◌}
-use mathlib.Core.Path.{◌≡◌, refl, sym, ◌∙◌, subst}
+use mathlib.Core.Path.{◌≡◌, refl, sym, ◌∙◌, ap, subst}
 use mathlib.Core.Bool.{Bool, true, false, ◌||◌}
 use mathlib.Core.Option.{none, some}
 use mathlib.Core.List.{List}
 use native.Mathlib.Omega.{arith}
+use Rattle.std.specs.Prelude.{Some, None}
 use lib.ListN.{length, get_or, get_elem?, set}
 use lib.Seq.{set-get_or}
 use Rattle.model.specs.Syntax.{Function, Program, targets}
 use Rattle.model.specs.Pool.{block_in}
 use Rattle.model.proofs.Facts.{none-some, some-injective, below_at}
 use Rattle.code.specs.Code.{transfer_at}
-use Rattle.places.specs.declared.Place.{Place}
-use Rattle.places.specs.declared.Place.TheVariants.{At, Nowhere}
+use Rattle.places.specs.Places.{Place}
 use Rattle.transfers.specs.Transfers.{transfer_in, FindsTransfer}
 use Rattle.transfers.proofs.Blocks.{transfer-is}
 use Rattle.inference.specs.Infer.{Mark, at, grow, downward, sweep}
 use Rattle.scopings.specs.Words.{scope_in}
 use Rattle.scopings.specs.Changes.{scoped, Whole}
 use Rattle.scopings.proofs.Changing.{whole-scope, whole-scoped, one-scopes}
-use Rattle.infer.specs.Needs.{joined_in, Bounded, Grown, Grows, GrowsAll, Settles}
-use Rattle.infer.proofs.Rounds.{Sweeping, Rounding, downward-goes, downward-none, still, sweep-all, sweep-next, sweep-end}
-use Rattle.infer.proofs.Rounds.{round-all, round-next, round-end, round-still}
+use Rattle.infer.specs.declared.Needed.{Needed}
+use Rattle.infer.specs.Needs.{joins, Bounded, Grown, Grows, GrowsAll, Settles}
+use Rattle.infer.proofs.Sweeps.{Sweeping, downward-goes, downward-none, still, sweep-all, sweep-next, sweep-end, rounds-taken}
+use Rattle.infer.specs.Rounds.{RoundsBy}
+use denote.Ref.{MutBor}
 use Rattle.infer.proofs.Leading.{no_block, the_block}
 use Rattle.infer.proofs.Needing.{joineds}
 use Rattle.infer.proofs.Owning.{Scopes}
 
 -- a block's scope, and what the scopes of its targets need
 module _ (s transfers : List ℕ) (f b : ℕ) (bounds words : List ℕ) {r : Place} (find : FindsTransfer transfers f b r) where
-  pub grown-nowhere : r ≡ Nowhere → Grown s transfers f b bounds words 0
+  pub grown-nowhere : r ≡ None → Grown s transfers f b bounds words 0
   unfolding block_in
   grown-nowhere e =
       record {
@@ -38,8 +40,9 @@ module _ (s transfers : List ℕ) (f b : ℕ) (bounds words : List ℕ) {r : Pla
             none-some (sym (no_block (get_elem? F.blocks b) q) ∙ g);
       }
 
-  pub grown-at : {p Γ Δ v : ℕ} → r ≡ At p → Γ ≡ get_or bounds b 0 → Δ ≡ scope_in words b
-      → v ≡ joined_in Γ Δ (scope_in words) (targets (transfer_at s p)) → Grown s transfers f b bounds words v
+  pub grown-at : {p Γ Δ : ℕ} {v : Needed} → r ≡ Some p → Γ ≡ get_or bounds b 0 → Δ ≡ scope_in words b
+      → v ≡ joins (record { bound = Γ; needs = Δ }) (scope_in words) (targets (transfer_at s p))
+      → Grown s transfers f b bounds words v.needs
   unfolding block_in
   grown-at {p} {Γ} {Δ} {v} e d c z =
       record {
@@ -49,9 +52,9 @@ module _ (s transfers : List ℕ) (f b : ℕ) (bounds words : List ℕ) {r : Pla
             let (C, j, t) = the_block (get_elem? F.blocks b) i' in
             let u : B ≡ C = some-injective (sym g ∙ j) in
             let q : B.transfer ≡ transfer_at s p = rw u (t ∙ transfer-is s p T w.ended.short y) in
-            z
+            ap (λ (n : Needed). n.needs) z
             ∙ rw (d ∙ w.bound.is b B (omega arith) g, c ∙ whole-scope h b, q)
-            (joineds _ _ (scope_in words) Γs (targets (transfer_at s p)) (whole-scope h));
+            (joineds _ (scope_in words) Γs (targets (transfer_at s p)) (whole-scope h));
       }
 
 -- a block that has it already, and one that gets it
@@ -106,29 +109,13 @@ module _ {s transfers : List ℕ} {f n : ℕ} {bounds words₀ : List ℕ} where
           same = t.same;
         }
 
--- the rounds
-pub record SettleLeft (s transfers : List ℕ) (f n : ℕ) (bounds words₀ words : List ℕ) (left : ℕ) : Type 0 where
-  pub is : (P : Program) (F : Function) → Bounded s transfers f bounds P F → (ms : List Mark) → length F.blocks ≡ length ms →
-      n ≡ length ms → Rounding (Scopes ms) (sweep (grow F) (downward n)) (16 * n) left words₀ words
-
-module _ {s transfers : List ℕ} {f n : ℕ} {bounds words₀ : List ℕ} where
-  pub settle-first : SettleLeft s transfers f n bounds words₀ words₀ (16 * n)
-  settle-first = record { is = λ P F w ms d l. round-all (Scopes ms) }
-
-  module _ {words : List ℕ} {left : ℕ} (t : SettleLeft s transfers f n bounds words₀ words left) where
-    pub settle-next : {words' : List ℕ} {r : Bool} → 0 < left → GrowsAll s transfers f n bounds words r words'
-        → SettleLeft s transfers f n bounds words₀ words' (left - 1)
-    settle-next k p =
-        record { is = λ P F w ms d l. round-next (Scopes ms) (t.is P F w ms d l) k (λ Γs h. p.is P F w ms Γs d l h) }
-
-    pub settle-still : {words' : List ℕ} {r : Bool} → GrowsAll s transfers f n bounds words r words' → r ≡ false
-        → Settles s transfers f n bounds words₀ words'
-    settle-still p z =
-        record {
-          is = λ P F w ms Γs d l h.
-              round-still (Scopes ms) (t.is P F w ms d l) (λ Γs Δs g k. one-scopes g.held k.held) (p.same z)
-              (λ Γs h. p.is P F w ms Γs d l h) Γs h;
-        }
-
-    pub settle-end : left ≤ 0 → Settles s transfers f n bounds words₀ words
-    settle-end k = record { is = λ P F w ms Γs d l h. round-end (Scopes ms) (t.is P F w ms d l) k Γs h }
+-- rounds, in each of which all scopes grow
+module _ {s transfers : List ℕ} {f n : ℕ} {bounds : List ℕ} (post : MutBor (List ℕ) → Bool → MutBor (List ℕ) → Type 0)
+    (all : (p : MutBor (List ℕ)) (r : Bool) (p' : MutBor (List ℕ)) → post p r p' → GrowsAll s transfers f n bounds p.now r p'.now) where
+  pub settles : {words words' : List ℕ} → RoundsBy post (16 * n) words words' → Settles s transfers f n bounds words words'
+  settles t =
+      record {
+        is = λ P F w ms Γs d l h.
+            rounds-taken (Scopes ms) post (sweep (grow F) (downward n)) (λ ws Γs Δs g k. one-scopes g.held k.held)
+            (λ p r p' c. let u = all p r p' c in (λ Γs h. u.is P F w ms Γs d l h, u.same)) (16 * n) t Γs h;
+      }

@@ -2,9 +2,12 @@
 use Prim.Native.Nat.{ℕ, zero, suc, ◌+◌, ◌-◌, ◌^◌, ◌≤◌, ◌<◌}
 use mathlib.Core.Path.{◌≡◌, refl, sym, ◌∙◌, ap, subst}
 use mathlib.Core.Bool.{Bool, false, ◌||◌}
-use mathlib.Core.Option.{Option, none, some}
+use mathlib.Core.Option.{Option as Maybe, none, some}
+use Rattle.std.specs.Prelude.{◌==◌, Option, Some, None, option_map}
+use Rattle.std.specs.List.{find, range_with_len}
 use mathlib.Core.List.{List, [], ◌∷◌}
 use native.Mathlib.Omega.{arith}
+use borrow.Author.Tests.{ne_eqb}
 use lib.ListN.{length, get_or, get_elem?, drop, drop_of_length-le}
 use Rattle.model.specs.Syntax.{Transfer, Head, Block, Function, Program, targets}
 use Rattle.model.specs.Read as Read
@@ -15,9 +18,7 @@ use Rattle.model.proofs.Reading.{next-ok, byte-ok, ok-value, many-length}
 use Rattle.code.specs.Bytes.{byte_at, past}
 use Rattle.code.specs.Code.{transfer_at}
 use Rattle.code.proofs.Offsets.{past-in}
-use Rattle.places.specs.declared.Place.{Place}
-use Rattle.places.specs.declared.Place.TheVariants.{At, Nowhere}
-use Rattle.places.specs.Places.{FindsFunction}
+use Rattle.places.specs.Places.{Place, FindsFunction}
 use Rattle.transfers.specs.Transfers.{transfer_in, FindsTransfer}
 use Rattle.transfers.proofs.Blocks.{transfer-is}
 use Rattle.inference.specs.Infer.{Mark, at, leads, lead, upward, sweep, entered}
@@ -26,10 +27,11 @@ use Rattle.scopings.specs.Words.{digits, mark_of, Held}
 use Rattle.scopings.specs.Changes.{level_in, names_in, Cleared, marked, Whole}
 use Rattle.scopings.proofs.Changing.{mark-is, whole-cleared, whole-marked, one-marks}
 use Rattle.infer.specs.declared.Nesting.{Nesting}
-use Rattle.infer.specs.declared.Lowest.TheVariants as lowest
+use Rattle.infer.specs.Infers.{lowest_of}
 use Rattle.infer.specs.Nestings.{mark_by, Turns, under_at, Follows, Ended, Leads, LeadsAll, Reached, Begun, Counts, Lows}
-use Rattle.infer.proofs.Rounds.{Sweeping, Rounding, upward-goes, upward-none, still, sweep-all, sweep-next, sweep-end, round-all}
-use Rattle.infer.proofs.Rounds.{round-next, round-end, round-still}
+use Rattle.infer.proofs.Sweeps.{Sweeping, upward-goes, upward-none, still, sweep-all, sweep-next, sweep-end, rounds-taken}
+use Rattle.infer.specs.Rounds.{RoundsBy}
+use denote.Ref.{MutBor}
 use Rattle.infer.proofs.Marking.{mark-there}
 
 -- what the words hold while the scopes stay
@@ -37,12 +39,12 @@ abbrev pub Marks : List ℕ → List ℕ → List Mark → Type 0
 Marks Γs words ms = Whole words ms Γs
 
 -- where there is no transfer there is no block; where there is one it is the block's
-pub no_block : (o : Option Block) → transfer_in o ≡ none → o ≡ none
+pub no_block : (o : Maybe Block) → transfer_in o ≡ none → o ≡ none
 unfolding transfer_in
 no_block none e = refl
 no_block (some B) e = none-some (sym e)
 
-pub the_block : (o : Option Block) {T : Transfer} → transfer_in o ≡ some T → (B : Block) × (o ≡ some B) × (B.transfer ≡ T)
+pub the_block : (o : Maybe Block) {T : Transfer} → transfer_in o ≡ some T → (B : Block) × (o ≡ some B) × (B.transfer ≡ T)
 unfolding transfer_in
 the_block o e = map-some _ o e
 
@@ -58,13 +60,13 @@ module _ {s transfers : List ℕ} {f b : ℕ} {words : List ℕ} where
         same = λ q. refl;
       }
     where
-      go : {ms : List Mark} {Γs : List ℕ} (o : Option Block) → get_or ms b none ≡ none → Whole words ms Γs
+      go : {ms : List Mark} {Γs : List ℕ} (o : Maybe Block) → get_or ms b none ≡ none → Whole words ms Γs
           → Whole words (at o (λ B ms. leads (get_or ms b none) B.transfer ms) ms) Γs
       go none m h = h
       go (some B) m h = rw m h
 
   module _ {r : Place} (find : FindsTransfer transfers f b r) where
-    pub lead-nowhere : r ≡ Nowhere → Leads s transfers f b words false words
+    pub lead-nowhere : r ≡ None → Leads s transfers f b words false words
     unfolding lead at block_in
     lead-nowhere e =
         record {
@@ -76,7 +78,7 @@ module _ {s transfers : List ℕ} {f b : ℕ} {words : List ℕ} where
         }
 
     -- a block that is reached and there
-    pub lead-at : {p level names : ℕ} {n u : Nesting} {t : Bool} {words' : List ℕ} → r ≡ At p → level ≡ level_in words b
+    pub lead-at : {p level names : ℕ} {n u : Nesting} {t : Bool} {words' : List ℕ} → r ≡ Some p → level ≡ level_in words b
         → (level ≡ 0 → ⊥) → names ≡ names_in words b → n ≡ record { level = level; names = names } → Turns n (under_at s p) u
         → Follows u (targets (transfer_at s p)) words t words' → Leads s transfers f b words t words'
     unfolding lead at leads block_in mark_of
@@ -134,31 +136,16 @@ module _ {s transfers : List ℕ} {f n : ℕ} {words₀ : List ℕ} where
           same = t.same;
         }
 
--- the rounds
-pub record ReachLeft (s transfers : List ℕ) (f n : ℕ) (words₀ words : List ℕ) (left : ℕ) : Type 0 where
-  pub is : (P : Program) (F : Function) → Ended s transfers f P F → (Γs : List ℕ) → n ≡ length Γs →
-      Rounding (Marks Γs) (sweep (lead F) (upward 0 n)) n left words₀ words
-
-module _ {s transfers : List ℕ} {f n : ℕ} {words₀ : List ℕ} where
-  pub reach-first : ReachLeft s transfers f n words₀ words₀ n
-  reach-first = record { is = λ P F w Γs l. round-all (Marks Γs) }
-
-  module _ {words : List ℕ} {left : ℕ} (t : ReachLeft s transfers f n words₀ words left) where
-    pub reach-next : {words' : List ℕ} {r : Bool} → 0 < left → LeadsAll s transfers f n words r words'
-        → ReachLeft s transfers f n words₀ words' (left - 1)
-    reach-next l p = record { is = λ P F w Γs d. round-next (Marks Γs) (t.is P F w Γs d) l (λ ms h. p.is P F w ms Γs d h) }
-
-    pub reach-still : {words' : List ℕ} {r : Bool} → LeadsAll s transfers f n words r words' → r ≡ false
-        → Reached s transfers f n words₀ words'
-    reach-still p z =
-        record {
-          is = λ P F w ms Γs d h.
-              round-still (Marks Γs) (t.is P F w Γs d) (λ ms ns g k. one-marks g.held k.held) (p.same z)
-              (λ ms h. p.is P F w ms Γs d h) ms h;
-        }
-
-    pub reach-end : left ≤ 0 → Reached s transfers f n words₀ words
-    reach-end l = record { is = λ P F w ms Γs d h. round-end (Marks Γs) (t.is P F w Γs d) l ms h }
+-- rounds, each of which leads all blocks to their targets
+module _ {s transfers : List ℕ} {f n : ℕ} (post : MutBor (List ℕ) → Bool → MutBor (List ℕ) → Type 0)
+    (all : (p : MutBor (List ℕ)) (r : Bool) (p' : MutBor (List ℕ)) → post p r p' → LeadsAll s transfers f n p.now r p'.now) where
+  pub reaches : {words words' : List ℕ} → RoundsBy post n words words' → Reached s transfers f n words words'
+  reaches t =
+      record {
+        is = λ P F w ms Γs d h.
+            rounds-taken (Marks Γs) post (sweep (lead F) (upward 0 n)) (λ ws ms ns g k. one-marks g.held k.held)
+            (λ p r p' c. let u = all p r p' c in (λ ms h. u.is P F w ms Γs d h, u.same)) n t ms h;
+      }
 
 -- the beginning
 pub begun : {words words₁ words₂ : List ℕ} → Cleared words words₁ → words₂ ≡ marked words₁ 0 1 0 → Begun words words₂
@@ -193,13 +180,13 @@ function-begins p s at F k short e =
     }
 
 module _ (s places : List ℕ) (f : ℕ) {r : Place} (find : FindsFunction places f r) where
-  pub count-nowhere : r ≡ Nowhere → Counts s places f 0
+  pub count-nowhere : r ≡ None → Counts s places f 0
   count-nowhere e =
       record {
         is = λ P F w. none-some (sym (subst (FindsFunction places f) e find s P Read.bare w.placed) ∙ w.there);
       }
 
-  pub count_at : {p k n : ℕ} → r ≡ At p → k ≡ past p 2 → n ≡ byte_at s k → Counts s places f n
+  pub count_at : {p k n : ℕ} → r ≡ Some p → k ≡ past p 2 → n ≡ byte_at s k → Counts s places f n
   count_at {p} {k} {n} e d c =
       record {
         is = λ P F w.
@@ -208,10 +195,7 @@ module _ (s places : List ℕ) (f : ℕ) {r : Place} (find : FindsFunction place
             c ∙ rw d ((function-begins Read.bare s p G t.behind w.placed.short t.is).count ∙ rw z);
       }
 
--- the lowest block without a mark, from block b on
-pub record LowLeft (words : List ℕ) (n b : ℕ) : Type 0 where
-  pub is : (ms : List Mark) (Γs : List ℕ) → n ≡ length ms → Held words ms Γs → unmarked 0 ms ≡ unmarked b (drop b ms)
-
+-- the lowest block without a mark
 from : (ms : List Mark) (b : ℕ) → b < length ms → drop b ms ≡ get_or ms b none ∷ drop (b + 1) ms
 from ms b l = let (m, e) = below_at ms b l in drop-some ms b e ∙ rw (at-get_or ms b e)
   where
@@ -220,29 +204,26 @@ from ms b l = let (m, e) = below_at ms b l in drop-some ms b e ∙ rw (at-get_or
     at-get_or (m ∷ ms) zero e = sym (some-injective e)
     at-get_or (m ∷ ms) (suc b) e = at-get_or ms b e
 
-module _ {words : List ℕ} {n : ℕ} where
-  pub low_first : LowLeft words n 0
-  low_first = record { is = λ ms Γs e h. refl }
+module _ {words : List ℕ} {ms : List Mark} {Γs : List ℕ} (h : Held words ms Γs) where
+  low_from : (k b : ℕ) → b + k ≡ length ms → lowest_of (find (λ c. level_in words c == 0) (range_with_len b k)) ≡ unmarked b (drop b ms)
+  unfolding unmarked mark_of
+  low_from zero b e = rw (drop_of_length-le ms {i = b} (omega arith)) refl
+  low_from (suc k) b e = rw here (go (level_in words b) refl (low_from k (b + 1) (omega arith)))
+    where
+      here : drop b ms ≡ mark_of (level_in words b) (names_in words b) ∷ drop (b + 1) ms
+      here = from ms b (omega arith) ∙ rw (← h.marks b (omega arith), mark-is words b)
 
-  module _ {b : ℕ} (t : LowLeft words n b) where
-    module _ {level : ℕ} (l : b < n) (e : level ≡ level_in words b) where
-      here : (ms : List Mark) (Γs : List ℕ) → n ≡ length ms → Held words ms Γs
-          → drop b ms ≡ mark_of level (names_in words b) ∷ drop (b + 1) ms
-      here ms Γs d h = from ms b (omega arith) ∙ rw (← h.marks b (omega arith), mark-is words b, e)
+      go : (v : ℕ) → level_in words b ≡ v
+          → lowest_of (find (λ c. level_in words c == 0) (range_with_len (b + 1) k)) ≡ unmarked (b + 1) (drop (b + 1) ms)
+          → lowest_of (find (λ c. level_in words c == 0) (range_with_len b (suc k)))
+          ≡ unmarked b (mark_of (level_in words b) (names_in words b) ∷ drop (b + 1) ms)
+      go zero q i = rw q refl
+      go (suc v) q i = let n : (suc v == 0) ≡ false = ne_eqb (suc v) 0 (λ z. absurd (omega arith)) in rw (q, n) i
 
-      pub low-next : (level ≡ 0 → ⊥) → LowLeft words n (b + 1)
-      unfolding unmarked mark_of
-      low-next z =
-          record { is = λ ms Γs d h. t.is ms Γs d h ∙ rw (here ms Γs d h) (go level z (drop (b + 1) ms)) }
-        where
-          go : (v : ℕ) → (v ≡ 0 → ⊥) → (ms : List Mark) → unmarked b (mark_of v (names_in words b) ∷ ms) ≡ unmarked (b + 1) ms
-          go zero z ms = absurd (z refl)
-          go (suc v) z ms = refl
-
-      pub low-found : level ≡ 0 → Lows words n (lowest.Block b)
-      unfolding unmarked mark_of
-      low-found z = record { is = λ ms Γs d h. sym (t.is ms Γs d h ∙ rw (here ms Γs d h, z)) }
-
-    pub low_end : n ≤ b → Lows words n lowest.Nothing
-    unfolding unmarked
-    low_end l = record { is = λ ms Γs d h. sym (t.is ms Γs d h ∙ rw (drop_of_length-le ms {i = b} (omega arith))) }
+pub low-is : {words : List ℕ} {n : ℕ} {r : Option ℕ} → option_map (λ x. x) r ≡ find (λ b. level_in words b == 0) (range_with_len 0 n)
+    → Lows words n r
+low-is {words} {n} {r} e = record { is = λ ms Γs d h. ap lowest_of (same r ∙ e) ∙ low_from h n 0 (omega arith) }
+  where
+    same : (r : Option ℕ) → r ≡ option_map (λ x. x) r
+    same None = refl
+    same (Some x) = refl

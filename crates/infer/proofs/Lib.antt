@@ -1,4 +1,4 @@
-pub mod Rounds
+pub mod Sweeps
 pub mod ByKind
 pub mod Marking
 pub mod Leading

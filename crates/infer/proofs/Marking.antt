@@ -1,29 +1,32 @@
 -- Nestings as a level and names: opened, closed, under a transfer. And what marking blocks with one does to the words.
 use Prim.Native.Nat.{ℕ, zero, suc, ◌+◌, ◌*◌, ◌-◌, ◌/◌, ◌%◌, ◌≤◌, ◌<◌}
-use mathlib.Core.Path.{◌≡◌, refl, sym, ◌∙◌, ap, subst}
+use mathlib.Core.Path.{◌≡◌, refl, sym, ◌∙◌, ap}
 use mathlib.Core.Bool.{Bool, true, false, ◌||◌}
 use mathlib.Core.Option.{none, some}
+use mathlib.Core.Logic.{◌⊎◌}
 use mathlib.Core.List.{List, [], ◌∷◌, ◌++◌}
 use native.Mathlib.Omega.{arith}
+use Rattle.std.specs.Prelude.{min}
+use Rattle.code.specs.declared.Kind.{Kind}
+use Rattle.code.specs.declared.Kind.TheVariants.{Goto, If, Call, Return, Spork, Spoin}
+use Rattle.code.specs.Kinds.{number_of}
 use lib.Arith.{digits_div, digits_mod, mod-mul}
 use lib.Dec.{ltb}
 use lib.ListN.{length, get_or, set, get_or-eq_default}
 use lib.Seq.{set-get_or, set_out}
 use Rattle.model.specs.Lists.{unsnoc}
-use Rattle.model.specs.Syntax.{targets}
 use Rattle.model.proofs.Facts.{ltb-true, ltb-false, lt-ltb, le-ltb, none-some, some-injective}
 use Rattle.code.specs.Bytes.{byte_at, past}
-use Rattle.code.specs.Code.{run, expression_end, spawn_end, transfer_at}
+use Rattle.code.specs.Code.{run}
 use Rattle.inference.specs.Infer.{Mark, opened, front, closed, first, mark, mark_all}
 use Rattle.scopings.specs.Words.{digits, mark_of}
 use Rattle.scopings.specs.Changes.{level_in, names_in, marked, Whole}
 use Rattle.scopings.proofs.Changing.{mark-is, whole-marked, digits-length}
 use Rattle.infer.specs.declared.Nesting.{Nesting}
 use Rattle.infer.specs.Nestings.{mark_by, Turns, opened_by, under_at, Follows}
-use Rattle.infer.proofs.Rounds.{still}
-use Rattle.infer.proofs.ByKind.{under_same, under-opened}
-use Rattle.code.proofs.Targets.{names-goto, names-if, names-call, names-return, names-spork, names-spoin}
-use Rattle.infer.proofs.ByKind.{under-closed}
+use Rattle.infer.proofs.Sweeps.{still}
+use Rattle.infer.proofs.ByKind.{under_same, under-opened, under-closed}
+use Rattle.code.proofs.Ends.{run-goes, run_none}
 
 -- the nesting of a level above 0
 levelled : (level names d : ℕ) {ρ : List ℕ} → level ≡ suc d → mark_of level names ≡ some ρ → digits d names ≡ ρ
@@ -132,16 +135,16 @@ closed_some n l = record { is = λ ρ h. go n.level refl ρ h }
 turns_as : {n r : Nesting} {g h : List ℕ → List ℕ} → Turns n g r → ((ρ : List ℕ) → h ρ ≡ g ρ) → Turns n h r
 turns_as t e = record { is = λ ρ m. t.is ρ m ∙ ap some (sym (e ρ)) }
 
-module _ (s : List ℕ) (at : ℕ) {kind : ℕ} (k : kind ≡ byte_at s at) (n : Nesting) where
-  pub under_stays : kind < 4 → Turns n (under_at s at) n
-  under_stays l = record { is = λ ρ m. m ∙ ap some (sym (under_same s at k ρ l)) }
+module _ (s : List ℕ) (at : ℕ) {g : Kind} (k : number_of g ≡ min (byte_at s at) 5) (n : Nesting) where
+  pub under-stays : (g ≡ Goto) ⊎ ((g ≡ If) ⊎ ((g ≡ Call) ⊎ (g ≡ Return))) → Turns n (under_at s at) n
+  under-stays h = record { is = λ ρ m. m ∙ ap some (sym (under_same s at k ρ h)) }
 
-  pub under-opens : {j x : ℕ} {r : Nesting} → kind ≡ 4 → j ≡ past at 2 → x ≡ byte_at s j → Turns n (opened_by x) r
+  pub under-opens : {j x : ℕ} {r : Nesting} → g ≡ Spork → j ≡ past at 2 → x ≡ byte_at s j → Turns n (opened_by x) r
       → Turns n (under_at s at) r
   under-opens z e d t = turns_as t (λ ρ. under-opened s at k ρ z e ∙ rw d)
 
-  pub under-closes : {r : Nesting} → (kind ≡ 4 → ⊥) → 4 ≤ kind → Turns n closed r → Turns n (under_at s at) r
-  under-closes z l t = turns_as t (λ ρ. under-closed s at k ρ (omega arith))
+  pub under-closes : {r : Nesting} → g ≡ Spoin → Turns n closed r → Turns n (under_at s at) r
+  under-closes z t = turns_as t (λ ρ. under-closed s at k ρ z)
 
 -- the mark of a block in the words, where there is one
 module _ {words : List ℕ} {ms : List Mark} {Γs : List ℕ} (w : Whole words ms Γs) (b : ℕ) where
@@ -188,45 +191,45 @@ follow-new {n} {b} {words} e z d =
       same = λ q. let y : ◌≡◌ {A = ℕ} 0 1 = cc in absurd (omega arith);
     }
 
--- no block, equal blocks, two blocks
-pub follow-none : {n : Nesting} {words : List ℕ} → Follows n [] words false words
+-- blocks that are named at an offset, of which so many are left
+pub record FollowsLeft (s : List ℕ) (at count : ℕ) (n : Nesting) (words₀ words : List ℕ) (changed : Bool) (next left : ℕ) : Type 0 where
+  pub is : (ρ : List ℕ) (ms : List Mark) (Γs : List ℕ) → mark_by n ≡ some ρ → Whole words₀ ms Γs →
+      (ms' : List Mark) × Whole words ms' Γs × (mark_all ρ ms' (run s next left) ≡ mark_all ρ ms (run s at count))
+  pub same : changed ≡ false → words ≡ words₀
+
+mark-first : (ρ : List ℕ) (ms : List Mark) (b : ℕ) (b̄ : List ℕ) → mark_all ρ ms (b ∷ b̄) ≡ mark_all ρ (mark_all ρ ms (b ∷ [])) b̄
 unfolding mark_all
-follow-none = record { is = λ ρ ms Γs h w. w; same = λ q. refl }
+mark-first ρ ms b b̄ = refl
 
-follow-as : {n : Nesting} {b̄ c̄ words words' : List ℕ} {r : Bool} → Follows n b̄ words r words' → c̄ ≡ b̄ → Follows n c̄ words r words'
-follow-as {n} {b̄} {c̄} {words} {words'} {r} p e = subst (λ (x̄ : List ℕ). Follows n x̄ words r words') (sym e) p
+module _ {s : List ℕ} {at count : ℕ} {n : Nesting} {words₀ : List ℕ} where
+  pub follows-first : FollowsLeft s at count n words₀ words₀ false at (count - 0)
+  follows-first =
+      let e : count - 0 ≡ count = omega arith in
+      record { is = λ ρ ms Γs h w. (ms, w, rw e refl); same = λ q. refl }
 
-pub follows-two : (s : List ℕ) (at : ℕ) {n : Nesting} {words words₁ words₂ : List ℕ} {x k y : ℕ} {p q r : Bool} → x ≡ byte_at s at
-    → Follows n (x ∷ []) words p words₁ → k ≡ past at 1 → y ≡ byte_at s k → Follows n (y ∷ []) words₁ q words₂ → r ≡ (p || q)
-    → Follows n (run s at 2) words r words₂
-unfolding run mark_all
-follows-two s at e f d g h z =
-    record {
-      is = λ ρ ms Γs m w. rw (← d, ← e, ← g) (h.is ρ _ Γs m (f.is ρ ms Γs m w));
-      same = still f.same h.same z;
-    }
+  module _ {words : List ℕ} {changed : Bool} {next k : ℕ} (t : FollowsLeft s at count n words₀ words changed next (count - k)) where
+    pub follows-next : {x j : ℕ} {m r : Bool} {words' : List ℕ} → k < count → x ≡ byte_at s next → Follows n (x ∷ []) words m words'
+        → j ≡ past next 1 → r ≡ (changed || m) → FollowsLeft s at count n words₀ words' r j (count - (k + 1))
+    follows-next {x} l e f d c =
+        let z : count - k - 1 ≡ count - (k + 1) = omega arith in
+        record {
+          is = λ ρ ms Γs h w.
+              let (ms', u, q) = t.is ρ ms Γs h w in
+              let g = mark-first ρ ms' x (run s (past next 1) (count - (k + 1))) in (
+                mark_all ρ ms' (x ∷ []),
+                f.is ρ ms' Γs h u,
+                rw d (sym g) ∙ rw (run-goes s next (count - k) (omega arith), z, ← e) at q,
+              );
+          same = still t.same f.same c;
+        }
 
--- the targets of a transfer
-module _ (s : List ℕ) (at : ℕ) {first kind : ℕ} (f : first ≡ past at 1) (k : kind ≡ byte_at s at) {n : Nesting} {words : List ℕ} where
-  pub follow-return : kind ≡ 3 → Follows n (targets (transfer_at s at)) words false words
-  follow-return z = follow-as follow-none (names-return s at f k z)
-
-  module _ {words' : List ℕ} {r : Bool} where
-    pub follow-goto : {x : ℕ} → kind ≡ 0 → x ≡ byte_at s first → Follows n (x ∷ []) words r words'
-        → Follows n (targets (transfer_at s at)) words r words'
-    follow-goto z e p = follow-as p (names-goto s at f k z ∙ rw e)
-
-    pub follow-if : {x : ℕ} → kind ≡ 1 → x ≡ expression_end s first → Follows n (run s x 2) words r words'
-        → Follows n (targets (transfer_at s at)) words r words'
-    follow-if z e p = follow-as p (names-if s at f k z e)
-
-    pub follow-call : {x y : ℕ} → kind ≡ 2 → x ≡ spawn_end s first → y ≡ byte_at s x → Follows n (y ∷ []) words r words'
-        → Follows n (targets (transfer_at s at)) words r words'
-    follow-call z e d p = follow-as p (names-call s at f k z e ∙ rw d)
-
-    pub follow-spork : {x : ℕ} → kind ≡ 4 → x ≡ byte_at s first → Follows n (x ∷ []) words r words'
-        → Follows n (targets (transfer_at s at)) words r words'
-    follow-spork z e p = follow-as p (names-spork s at f k z ∙ rw e)
-
-    pub follow-spoin : 4 < kind → Follows n (run s first 2) words r words' → Follows n (targets (transfer_at s at)) words r words'
-    follow-spoin z p = follow-as p (names-spoin s at f k z)
+    pub follows-end : {b̄ : List ℕ} → count ≤ k → run s at count ≡ b̄ → Follows n b̄ words₀ changed words
+    unfolding mark_all
+    follows-end l e =
+        record {
+          is = λ ρ ms Γs h w.
+              let (ms', u, q) = t.is ρ ms Γs h w in
+              let y : ms' ≡ mark_all ρ ms (run s at count) = rw (run_none s next (count - k) (omega arith)) at q in
+              rw (← e, ← y) u;
+          same = t.same;
+        }

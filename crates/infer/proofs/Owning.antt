@@ -4,6 +4,7 @@ use mathlib.Core.Path.{◌≡◌, refl, sym, ◌∙◌, ap, subst}
 use mathlib.Core.Option.{none, some}
 use mathlib.Core.List.{List}
 use native.Mathlib.Omega.{arith}
+use Rattle.std.specs.Prelude.{Some, None}
 use native.Mathlib.Decide.{ℕ_discrete}
 use lib.ListN.{length, get_or, get_elem?, set, length-set}
 use lib.Seq.{get_or-set_same, get_or-set_other}
@@ -18,9 +19,7 @@ use Rattle.model.proofs.Reading.{next-ok, counted-ok}
 use Rattle.code.specs.Bytes.{past}
 use Rattle.code.specs.Code.{arguments_at, bare_at, list_end, coded, spawn_at}
 use Rattle.code.proofs.Decoding.{decodes-bare, decodes-block_by, spawn-is}
-use Rattle.places.specs.declared.Place.{Place}
-use Rattle.places.specs.declared.Place.TheVariants.{At, Nowhere}
-use Rattle.places.specs.Places.{spawn_in, FindsBlock, FindsSpawn}
+use Rattle.places.specs.Places.{Place, spawn_in, FindsBlock, FindsSpawn}
 use Rattle.inference.specs.Infer.{Mark, arguments_of, nesting_needs, nesting_of, at, bound_by, own, need, downward}
 use Rattle.scopings.specs.Words.{blocks, digits, mark_of, scope_in}
 use Rattle.scopings.specs.Changes.{level_in, names_in, scoped, Whole}
@@ -29,7 +28,7 @@ use Rattle.infer.specs.declared.Nesting.{Nesting}
 use Rattle.infer.specs.declared.Needed.{Needed}
 use Rattle.infer.specs.Nestings.{mark_by, Placed}
 use Rattle.infer.specs.Needs.{binding_all, block_needs_at, Binds, NestingNeeds, Owns, BoundFrom, NeedsOwn, NeedsAll}
-use Rattle.infer.proofs.Rounds.{Sweeping, downward-goes, downward-none, sweep-all, sweep-next, sweep-end}
+use Rattle.infer.proofs.Sweeps.{Sweeping, downward-goes, downward-none, sweep-all, sweep-next, sweep-end}
 use Rattle.infer.proofs.Marking.{mark-there}
 use Rattle.infer.proofs.Needing.{bindings, bound-is, needs-is}
 
@@ -39,7 +38,7 @@ limited {s} {places} {f} {P} w = each_at InFunction P f w.placed.limits.function
 
 -- the arguments of a spawn call
 module _ (s places : List ℕ) (f π Δ : ℕ) {r : Place} (find : FindsSpawn places f π r) where
-  pub spawn-nowhere : r ≡ Nowhere → Binds s places f π Δ Δ
+  pub spawn-nowhere : r ≡ None → Binds s places f π Δ Δ
   unfolding spawn_in arguments_of with_all
   spawn-nowhere e =
       record {
@@ -48,7 +47,7 @@ module _ (s places : List ℕ) (f π Δ : ℕ) {r : Place} (find : FindsSpawn pl
             rw q refl;
       }
 
-  pub spawn-at : {p k v : ℕ} → r ≡ At p → k ≡ past p 1 → v ≡ binding_all Δ (arguments_at s k) → Binds s places f π Δ v
+  pub spawn-at : {p k v : ℕ} → r ≡ Some p → k ≡ past p 1 → v ≡ binding_all Δ (arguments_at s k) → Binds s places f π Δ v
   unfolding spawn_in arguments_of spawn_at
   spawn-at {p} {k} {v} e d c =
       record {
@@ -61,35 +60,31 @@ module _ (s places : List ℕ) (f π Δ : ℕ) {r : Place} (find : FindsSpawn pl
             c ∙ rw (q, ← y) (bindings Δ S.arguments x.each);
       }
 
--- the names of a nesting, outermost first
-pub record NestingLeft (s places : List ℕ) (f level₀ names₀ Δ₀ level names Δ : ℕ) : Type 0 where
+-- the names of a nesting, outermost first, of which so many are left
+pub record NestingLeft (s places : List ℕ) (f : ℕ) (n : Nesting) (Δ₀ left names Δ : ℕ) : Type 0 where
   pub is : (P : Program) (F : Function) → Placed s places f P F →
-      nesting_needs F Δ₀ (nesting_of (mark_of level₀ names₀)) ≡ nesting_needs F Δ (nesting_of (mark_of level names))
+      nesting_needs F Δ₀ (nesting_of (mark_by n)) ≡ nesting_needs F Δ (digits left names)
 
-module _ {s places : List ℕ} {f level₀ names₀ Δ₀ : ℕ} where
-  pub nesting-first : NestingLeft s places f level₀ names₀ Δ₀ level₀ names₀ Δ₀
-  nesting-first = record { is = λ P F w. refl }
+module _ {s places : List ℕ} {f : ℕ} (n : Nesting) {Δ₀ : ℕ} where
+  pub nesting-first : NestingLeft s places f n Δ₀ (n.level - 1) n.names Δ₀
+  unfolding nesting_of mark_of digits
+  nesting-first = record { is = λ P F w. ap (nesting_needs F Δ₀) (go n.level) }
+    where
+      go : (k : ℕ) → nesting_of (mark_of k n.names) ≡ digits (k - 1) n.names
+      go zero = refl
+      go (suc k) = let e : suc k - 1 ≡ k = omega arith in rw e refl
 
-  module _ {level names Δ : ℕ} (t : NestingLeft s places f level₀ names₀ Δ₀ level names Δ) where
-    pub nesting-next : {Θ : ℕ} → 1 < level → Binds s places f (names % 256) Δ Θ
-        → NestingLeft s places f level₀ names₀ Δ₀ (level - 1) (names / 256) Θ
-    unfolding nesting_needs nesting_of mark_of digits
-    nesting-next {Θ} l p = record { is = λ P F w. t.is P F w ∙ go level l F (p.is P F w) }
-      where
-        go : (k : ℕ) → 1 < k → (F : Function) → Θ ≡ with_all Δ (arguments_of (get_elem? F.spawns (names % 256)))
-            → nesting_needs F Δ (nesting_of (mark_of k names)) ≡ nesting_needs F Θ (nesting_of (mark_of (k - 1) (names / 256)))
-        go zero h F e = absurd (omega arith)
-        go (suc zero) h F e = absurd (omega arith)
-        go (suc (suc k)) h F e = let z : suc (suc k) - 1 ≡ suc k = omega arith in rw (z, e) refl
+  module _ {k names Δ : ℕ} (t : NestingLeft s places f n Δ₀ (n.level - k) names Δ) where
+    pub nesting-next : {Θ : ℕ} → k < n.level → Binds s places f (names % 256) Δ Θ
+        → NestingLeft s places f n Δ₀ (n.level - (k + 1)) (names / 256) Θ
+    unfolding nesting_needs digits
+    nesting-next {Θ} l p =
+        let e : n.level - k ≡ suc (n.level - (k + 1)) = omega arith in
+        record { is = λ P F w. t.is P F w ∙ rw (e, p.is P F w) refl }
 
-    pub nesting-end : {n : Nesting} → level₀ ≡ n.level → names₀ ≡ n.names → level ≤ 1 → NestingNeeds s places f n Δ₀ Δ
-    unfolding nesting_needs nesting_of mark_of digits
-    nesting-end {n} e d l = record { is = λ P F w. sym (rw (← e, ← d) (t.is P F w) ∙ go level l F) }
-      where
-        go : (k : ℕ) → k ≤ 1 → (F : Function) → nesting_needs F Δ (nesting_of (mark_of k names)) ≡ Δ
-        go zero h F = refl
-        go (suc zero) h F = refl
-        go (suc (suc k)) h F = absurd (omega arith)
+    pub nesting-end : n.level ≤ k → NestingNeeds s places f n Δ₀ Δ
+    unfolding nesting_needs digits
+    nesting-end l = let e : n.level - k ≡ 0 = omega arith in record { is = λ P F w. sym (t.is P F w ∙ rw e) }
 
 -- a block of version 2
 block_inside : (s : List ℕ) (at : ℕ) {B : Block} {k : ℕ} → Read.block_by Read.bare s at ≡ Parsed.ok B k → at < length s
@@ -119,17 +114,17 @@ module _ (s : List ℕ) (p : ℕ) (B : Block) (i : InBlock B) (e : B ≡ coded (
   own_of F ρ Δ = needs-is s p (nesting_needs F Δ ρ) inside.head.parameters.each inside.code inside.transfer ∙ rw e
 
 module _ (s places : List ℕ) (f b : ℕ) {r : Place} (find : FindsBlock places f b r) where
-  no_own : r ≡ Nowhere → {P : Program} {F : Function} → Placed s places f P F → {B : Block} → get_elem? F.blocks b ≡ some B
+  no_own : r ≡ None → {P : Program} {F : Function} → Placed s places f P F → {B : Block} → get_elem? F.blocks b ≡ some B
       → {A : Type 0} → A
   unfolding block_in
   no_own e {P} {F} w g =
       let q : get_elem? F.blocks b ≡ none = rw w.there at (subst (FindsBlock places f b) e find s P Read.bare w.placed) in
       none-some (sym q ∙ g)
 
-  pub own-nowhere : (words : List ℕ) {v : Needed} → r ≡ Nowhere → Owns s places f b words v
+  pub own-nowhere : (words : List ℕ) {v : Needed} → r ≡ None → Owns s places f b words v
   own-nowhere words e = record { bound = λ P F w B g. no_own e w g; needs = λ P F w B g ms Γs l h. no_own e w g }
 
-  there : {p : ℕ} → r ≡ At p → {P : Program} {F : Function} → Placed s places f P F → {B : Block} → get_elem? F.blocks b ≡ some B
+  there : {p : ℕ} → r ≡ Some p → {P : Program} {F : Function} → Placed s places f P F → {B : Block} → get_elem? F.blocks b ≡ some B
       → B ≡ coded (bare_at s p) s (list_end s p)
   unfolding block_in
   there {p} e {P} {F} w {B} g =
@@ -138,7 +133,7 @@ module _ (s places : List ℕ) (f b : ℕ) {r : Place} (find : FindsBlock places
       let u : B ≡ C = some-injective (sym g ∙ q) in
       u ∙ block-is s p C t.behind w.placed.short t.is
 
-  pub own_at : (words : List ℕ) {p level names Δ Θ : ℕ} {n : Nesting} {v : Needed} → r ≡ At p → level ≡ level_in words b
+  pub own_at : (words : List ℕ) {p level names Δ Θ : ℕ} {n : Nesting} {v : Needed} → r ≡ Some p → level ≡ level_in words b
       → names ≡ names_in words b → n ≡ record { level = level; names = names } → Δ ≡ scope_in words b → NestingNeeds s places f n Δ Θ
       → v ≡ block_needs_at s p Θ → Owns s places f b words v
   own_at words {p} {level} {names} {Δ} {Θ} {n} {v} e d c k y needs z =

@@ -1,7 +1,7 @@
 -- What the inference of a function's scopes and nestings leaves in the words, for every program of version 2 that places and transfers
 -- are those of.
-use Rattle.std.specs.Prelude.{ℕ, ◌≡◌, List, length}
-use Rattle.std.proofs.Math.Option.{Option, none, some}
+use Rattle.std.specs.Prelude.{ℕ, ◌≡◌, List, Option, Some, None, length}
+use Rattle.std.proofs.Math.Option.{Option as Maybe, none, some}
 use Rattle.std.proofs.Math.ListN.{get_elem?}
 use Rattle.model.specs.Syntax.{Function, Program}
 use Rattle.model.specs.Read as Read
@@ -10,8 +10,6 @@ use Rattle.transfers.specs.Transfers.{Transfers}
 use Rattle.inference.specs.Infer.{marks, scopes}
 use Rattle.inference.specs.Complete.{unmarked}
 use Rattle.scopings.specs.Words.{len, Held}
-use Rattle.infer.specs.declared.Lowest.{Lowest}
-use Rattle.infer.specs.declared.Lowest.TheVariants as lowest
 
 -- F is function f of a program of which places and transfers are those
 pub record Known (s places transfers : List ℕ) (f : ℕ) (P : Program) (F : Function) : Type 0 where
@@ -20,12 +18,12 @@ pub record Known (s places transfers : List ℕ) (f : ℕ) (P : Program) (F : Fu
   pub there : get_elem? P f ≡ some F
 
 -- the lowest block of a function that is not reached
-abbrev pub lowest_of : Lowest → Option ℕ
-lowest_of (lowest.Block b) = some b
-lowest_of lowest.Nothing = none
+abbrev pub lowest_of : Option ℕ → Maybe ℕ
+lowest_of (Some b) = some b
+lowest_of None = none
 
 -- all marks of function f; and the lowest block without one
-pub record Reaches (s places transfers : List ℕ) (f : ℕ) (words : List ℕ) (r : Lowest) (words' : List ℕ) : Type 0 where
+pub record Reaches (s places transfers : List ℕ) (f : ℕ) (words : List ℕ) (r : Option ℕ) (words' : List ℕ) : Type 0 where
   pub is : (P : Program) (F : Function) → Known s places transfers f P F → length words ≡ len →
       (lowest_of r ≡ unmarked 0 (marks F)) × (length words' ≡ len)
 

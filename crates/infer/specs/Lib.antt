@@ -2,3 +2,4 @@
 pub mod Infers
 pub mod Nestings
 pub mod Needs
+pub mod Rounds

@@ -12,7 +12,6 @@ use Rattle.inference.specs.Infer.{grow, downward, sweep, rounds}
 use Rattle.scopings.specs.Words.{blocks}
 use Rattle.scopings.specs.Changes.{Whole}
 use Rattle.infer.specs.declared.Nesting.{Nesting}
-use Rattle.infer.specs.declared.Walked.{Walked}
 use Rattle.infer.specs.declared.Needed.{Needed}
 use Rattle.infer.specs.Nestings.{mark_by, Placed, Ended}
 
@@ -25,28 +24,34 @@ unfoldable pub lacking_in : ℕ → ℕ → List ℕ → ℕ
 lacking_in Γ Δ [] = Δ
 lacking_in Γ Δ (x ∷ x̄) = lacking_in Γ (cond (holds Γ x) Δ (binding Δ x)) x̄
 
--- statements: what is bound behind them, and what they need
+unfoldable pub lacks : Needed → List ℕ → Needed
+lacks n x̄ = record { bound = n.bound; needs = lacking_in n.bound n.needs x̄ }
+
+-- statements: what is bound behind them, and what they need; and with the offset there
 unfoldable pub needed_in : ℕ → ℕ → List Statement → Needing
 needed_in Γ Δ [] = record { bound = Γ; needs = Δ }
 needed_in Γ Δ (S ∷ C) = needed_in (binding Γ S.target) (lacking_in Γ Δ (uses S.source)) C
 
-unfoldable pub walked_at : ℕ → ℕ → List Statement → ℕ → Walked
-walked_at Γ Δ C e = record { bound = (needed_in Γ Δ C).bound; needs = (needed_in Γ Δ C).needs; end = e }
+unfoldable pub needed_behind : Needed → List Statement → Needed
+needed_behind n C = record { bound = (needed_in n.bound n.needs C).bound; needs = (needed_in n.bound n.needs C).needs }
+
+unfoldable pub walked_at : Needed → List Statement → ℕ → Needed × ℕ
+walked_at n C e = (needed_behind n C, e)
 
 -- code at an offset, which ends in a transfer: what is bound behind it, and what it needs; a block, of which the parameters come first
-unfoldable pub used_at : List ℕ → ℕ → Needing → Needed
-used_at s at k = record { bound = k.bound; needs = lacking_in k.bound k.needs (used_by (transfer_at s at)) }
-
-unfoldable pub code_needs_at : List ℕ → ℕ → ℕ → ℕ → Needed
-code_needs_at s at Γ Δ = used_at s (code_end s at) (needed_in Γ Δ (code_at s at))
+unfoldable pub code_needs_at : List ℕ → ℕ → Needed → Needed
+code_needs_at s at n = lacks (needed_behind n (code_at s at)) (used_by (transfer_at s (code_end s at)))
 
 unfoldable pub block_needs_at : List ℕ → ℕ → ℕ → Needed
-block_needs_at s at Δ = code_needs_at s (list_end s at) (binding_all 0 (arguments_at s at)) Δ
+block_needs_at s at Δ = code_needs_at s (list_end s at) (record { bound = binding_all 0 (arguments_at s at); needs = Δ })
 
--- targets, by the scopes of blocks
-unfoldable pub joined_in : ℕ → ℕ → (ℕ → ℕ) → List ℕ → ℕ
-joined_in Γ Δ scope [] = Δ
-joined_in Γ Δ scope (b ∷ b̄) = joined_in Γ (joined Γ Δ (scope b)) scope b̄
+-- a scope; targets, by the scopes of blocks
+unfoldable pub joining : Needed → ℕ → Needed
+joining n Θ = record { bound = n.bound; needs = joined n.bound n.needs Θ }
+
+unfoldable pub joins : Needed → (ℕ → ℕ) → List ℕ → Needed
+joins n scope [] = n
+joins n scope (b ∷ b̄) = joins (joining n (scope b)) scope b̄
 
 -- the arguments of spawn call π are needed; those of a nesting
 pub record Binds (s places : List ℕ) (f π Δ r : ℕ) : Type 0 where

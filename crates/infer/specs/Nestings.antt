@@ -1,6 +1,6 @@
 -- What the code says of nestings and marks: for every nesting that a pair of numbers stands for, for all marks and scopes that the words
 -- hold, and for every program of which the transfers are those.
-use Rattle.std.specs.Prelude.{ℕ, ◌^◌, ◌≤◌, ◌<◌, ◌≡◌, Bool, false, List, length, replicate}
+use Rattle.std.specs.Prelude.{ℕ, ◌^◌, ◌≤◌, ◌<◌, ◌≡◌, Bool, false, List, Option, length, replicate}
 use Rattle.std.proofs.Math.Option.{some}
 use Rattle.std.proofs.Math.ListN.{get_elem?}
 use Rattle.model.specs.Syntax.{Function, Program}
@@ -13,7 +13,6 @@ use Rattle.inference.specs.Complete.{unmarked}
 use Rattle.scopings.specs.Words.{len, blocks, mark_of, Held}
 use Rattle.scopings.specs.Changes.{Whole}
 use Rattle.infer.specs.declared.Nesting.{Nesting}
-use Rattle.infer.specs.declared.Lowest.{Lowest}
 use Rattle.infer.specs.Infers.{lowest_of}
 
 -- the mark that a pair of numbers stands for
@@ -70,5 +69,5 @@ pub record Counts (s places : List ℕ) (f r : ℕ) : Type 0 where
   pub is : (P : Program) (F : Function) → Placed s places f P F → r ≡ length F.blocks
 
 -- the lowest of n blocks that has no mark
-pub record Lows (words : List ℕ) (n : ℕ) (r : Lowest) : Type 0 where
+pub record Lows (words : List ℕ) (n : ℕ) (r : Option ℕ) : Type 0 where
   pub is : (ms : List Mark) (Γs : List ℕ) → n ≡ length ms → Held words ms Γs → lowest_of r ≡ unmarked 0 ms

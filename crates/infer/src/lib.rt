@@ -3,29 +3,24 @@
 // needs goes back along the transfers, in rounds again.
 #![tactic(auto)]
 
-ghost use Rattle.std.specs.Prelude.{◌≡◌, ◌%◌, ◌||◌, [], ◌∷◌, get_or, set};
+ghost use Rattle.std.specs.Prelude.{◌≡◌, ◌%◌, [], ◌∷◌, get_or};
 ghost use Rattle.code.specs.Code.{run, arguments_at, atom_at, expression_at, statements_at, statements_end, transfer_at};
 ghost use Rattle.model.specs.Sets.{below};
 ghost use Rattle.model.specs.Syntax.{uses, uses_atom, targets};
-ghost use Rattle.inference.specs.Infer.{closed, joined, used_by};
+ghost use Rattle.inference.specs.Infer.{closed, used_by};
 ghost use Rattle.scopings.specs.Words.{scope_in};
 ghost use Rattle.infer.specs.Infers.{Reaches, Infers};
+ghost use Rattle.infer.specs.Rounds.{RoundsBy};
 ghost use Rattle.infer.specs.Nestings.{Turns, opened_by, under_at, Follows, Leads, LeadsAll, Reached, Begun, Counts, Lows};
-ghost use Rattle.infer.specs.Needs.{binding_all, lacking_in, walked_at, code_needs_at, block_needs_at, joined_in};
+ghost use Rattle.infer.specs.Needs.{binding_all, lacks, walked_at, code_needs_at, block_needs_at, joining, joins};
 ghost use Rattle.infer.specs.Needs.{Binds, NestingNeeds, Owns, NeedsOwn, NeedsAll, Grown, Grows, GrowsAll, Settles, Enters};
 
-use places::{Layout, Place, Places};
+use code::Kind;
+use places::{Layout, Places};
 use transfers::Transfers;
 
-// The lowest block that is not reached, or that every block is.
-#[derive(Clone, Copy)]
-pub enum Lowest {
-    Block(u8),
-    Nothing,
-}
-
 // A nesting: one more than the number of its names, and the names, the outermost in the lowest digit to base 256.
-#[derive(Clone, Copy)]
+#[derive(Clone, Copy, PartialEq, Eq, Debug)]
 struct Nesting {
     level: u16,
     names: u32,
@@ -35,24 +30,21 @@ struct Nesting {
 fn opened(n: Nesting, x: u8) -> Nesting
     ensures { Turns n (opened_by x) result }
 {
-    let level = n.level;
-    let names = n.names;
-    match level {
-        1 => Nesting {
-            level: 2,
-            names: x as u32,
-        },
+    let x = x as u32;
+    // By how many names there are, and not by a kind: a power of 256 worked out is no plainer.
+    match n.level {
+        1 => Nesting { level: 2, names: x },
         2 => Nesting {
             level: 3,
-            names: names % 256 + 256 * (x as u32),
+            names: n.names % 256 + 256 * x,
         },
         3 => Nesting {
             level: 4,
-            names: names % 65536 + 65536 * (x as u32),
+            names: n.names % 65536 + 65536 * x,
         },
         4 => Nesting {
             level: 5,
-            names: names % 16777216 + 16777216 * (x as u32),
+            names: n.names % 16777216 + 16777216 * x,
         },
         _ => n,
     }
@@ -62,13 +54,12 @@ fn opened(n: Nesting, x: u8) -> Nesting
 fn closed(n: Nesting) -> Nesting
     ensures { Turns n closed result }
 {
-    let level = n.level;
-    if level < 2 {
+    if n.level < 2 {
         n
     } else {
         Nesting {
-            level: level - 1,
-            names: n.names,
+            level: n.level - 1,
+            ..n
         }
     }
 }
@@ -77,22 +68,11 @@ fn closed(n: Nesting) -> Nesting
 fn under(s: &[u8], at: usize, n: Nesting) -> Nesting
     ensures { Turns n (under_at s.now at) result }
 {
-    let kind = code::byte(s, at);
-    if kind < 4 {
-        return n;
+    match code::kind_at(s, at) {
+        Kind::Goto | Kind::If | Kind::Call | Kind::Return => n,
+        Kind::Spork => opened(n, code::byte(s, code::after(at, 2))),
+        Kind::Spoin => closed(n),
     }
-    if kind == 4 {
-        opened(n, code::byte(s, code::after(at, 2)))
-    } else {
-        closed(n)
-    }
-}
-
-// Either of two.
-fn either(a: bool, b: bool) -> bool
-    ensures { result ≡ (a || b) }
-{
-    if a { true } else { b }
 }
 
 // Block b is marked with the nesting, where it has no mark yet. Did that change anything?
@@ -102,34 +82,36 @@ fn follow_one(words: &mut [u32], b: u8, n: Nesting) -> bool
     if scopings::level(words, b) != 0 {
         return false;
     }
-    let level = n.level;
-    let names = n.names;
-    scopings::mark(words, b, level, names);
+    scopings::mark(words, b, n.level, n.names);
     true
 }
 
-// The two blocks that are named at an offset.
-fn follow_two(s: &[u8], at: usize, words: &mut [u32], n: Nesting) -> bool
-    ensures { Follows n (run s.now at 2) words.old result words.new }
+// Where the targets of the transfer at an offset are named, and how many there are.
+fn targets(s: &[u8], at: usize) -> (usize, u8)
+    ensures { run s.now result.0 result.1 ≡ targets (transfer_at s.now at) }
 {
-    let one = follow_one(words, code::byte(s, at), n);
-    let other = follow_one(words, code::byte(s, code::after(at, 1)), n);
-    either(one, other)
+    let first = code::after(at, 1);
+    match code::kind_at(s, at) {
+        Kind::Goto | Kind::Spork => (first, 1),
+        Kind::If => (code::expression_end(s, first), 2),
+        Kind::Call => (code::spawn_end(s, first), 1),
+        Kind::Return => (first, 0),
+        Kind::Spoin => (first, 2),
+    }
 }
 
 // The targets of the transfer at an offset.
 fn follow(s: &[u8], at: usize, words: &mut [u32], n: Nesting) -> bool
     ensures { Follows n (targets (transfer_at s.now at)) words.old result words.new }
 {
-    let first = code::after(at, 1);
-    match code::byte(s, at) {
-        0 => follow_one(words, code::byte(s, first), n),
-        1 => follow_two(s, code::expression_end(s, first), words, n),
-        2 => follow_one(words, code::byte(s, code::spawn_end(s, first)), n),
-        3 => false,
-        4 => follow_one(words, code::byte(s, first), n),
-        _ => follow_two(s, first, words, n),
+    let (first, count) = targets(s, at);
+    let mut changed = false;
+    let mut next = first;
+    'named: for _ in 0..count {
+        changed |= follow_one(words, code::byte(s, next), n);
+        next = code::after(next, 1);
     }
+    changed
 }
 
 // Block b of function f marks its targets, where it is reached.
@@ -141,12 +123,12 @@ fn lead(s: &[u8], transfers: &Transfers, f: usize, b: u8, words: &mut [u32]) -> 
         return false;
     }
     let n = Nesting {
-        level: level,
+        level,
         names: scopings::names(words, b),
     };
     match transfers::transfer(transfers, f, b as usize) {
-        Place::Nowhere => false,
-        Place::At(at) => follow(s, at, words, under(s, at, n)),
+        None => false,
+        Some(at) => follow(s, at, words, under(s, at, n)),
     }
 }
 
@@ -155,26 +137,33 @@ fn lead_all(s: &[u8], transfers: &Transfers, f: usize, n: u8, words: &mut [u32])
     ensures { LeadsAll s.now transfers.now f n words.old result words.new }
 {
     let mut changed = false;
-    let mut b = 0;
-    while b < n {
-        changed = either(changed, lead(s, transfers, f, b, words));
-        b += 1;
+    for b in 0..n {
+        changed |= lead(s, transfers, f, b, words);
     }
     changed
 }
 
-// As many rounds as there are blocks, or up to one that changes nothing.
-fn reach(s: &[u8], transfers: &Transfers, f: usize, n: u8, words: &mut [u32])
-    ensures { Reached s.now transfers.now f n words.old words.new }
+// So many rounds, or up to one that changes nothing.
+fn rounds<F: Fn(&mut [u32]) -> bool>(n: u16, words: &mut [u32], round: F)
+    requires { F.IsAlwaysCallable round }
+    ensures { RoundsBy (F.post round) n words.old words.new }
 {
-    let mut rounds = n;
-    while 0 < rounds {
-        if lead_all(s, transfers, f, n, words) {
-            rounds -= 1;
-        } else {
+    'rounds: for _ in 0..n {
+        if !round(words) {
             return;
         }
     }
+}
+
+// As many rounds as there are blocks.
+fn reach(s: &[u8], transfers: &Transfers, f: usize, n: u8, words: &mut [u32])
+    ensures { Reached s.now transfers.now f n words.old words.new }
+{
+    rounds(
+        n as u16,
+        words,
+        |words: &mut [u32]| lead_all(s, transfers, f, n, words),
+    );
 }
 
 // At first the entry alone is reached, under no nesting.
@@ -190,33 +179,26 @@ fn count(s: &[u8], places: &Places, f: usize) -> u8
     ensures { Counts s.now places.now f result }
 {
     match places::function(places, f) {
-        Place::Nowhere => 0,
-        Place::At(at) => code::byte(s, code::after(at, 2)),
+        None => 0,
+        Some(at) => code::byte(s, code::after(at, 2)),
     }
 }
 
 // The lowest of n blocks that is not reached.
-fn low(words: &[u32], n: u8) -> Lowest
+fn low(words: &[u32], n: u8) -> Option<u8>
     ensures { Lows words.now n result }
 {
-    let mut b = 0;
-    while b < n {
-        if scopings::level(words, b) == 0 {
-            return Lowest::Block(b);
-        }
-        b += 1;
-    }
-    Lowest::Nothing
+    (0..n).find(|b| scopings::level(words, *b) == 0)
 }
 
-// All marks of function f, and the lowest block without one.
+// All marks of function f, and the lowest block without one, if there is one.
 pub fn unreached(
     s: &[u8],
     places: &Places,
     transfers: &Transfers,
     f: usize,
     words: &mut [u32],
-) -> Lowest
+) -> Option<u8>
     ensures { Reaches s.now places.now transfers.now f words.old result
         words.new }
 {
@@ -232,11 +214,9 @@ fn bind_run(s: &[u8], at: usize, n: u8, set: u16) -> u16
 {
     let mut bound = set;
     let mut next = at;
-    let mut left = n;
-    while 0 < left {
+    'run: for _ in 0..n {
         bound = bound::bind(bound, code::byte(s, next));
         next = code::after(next, 1);
-        left -= 1;
     }
     bound
 }
@@ -248,130 +228,114 @@ fn bind_list(s: &[u8], at: usize, set: u16) -> u16
     bind_run(s, code::after(at, 1), code::count(s, at), set)
 }
 
-// What is needed, and x where it is not bound.
-fn lacking(bound: u16, needs: u16, x: u8) -> u16
-    ensures { result ≡ lacking_in bound needs (x ∷ []) }
-{
-    if bound::holds(bound, x) {
-        needs
-    } else {
-        bound::bind(needs, x)
-    }
-}
-
-// What an atom uses.
-fn atom(s: &[u8], at: usize, bound: u16, needs: u16) -> u16
-    ensures { result ≡ lacking_in bound needs (uses_atom (atom_at s.now at)) }
-{
-    if code::byte(s, at) == 0 {
-        needs
-    } else {
-        lacking(bound, needs, code::byte(s, code::after(at, 1)))
-    }
-}
-
-// What an expression uses.
-fn expression(s: &[u8], at: usize, bound: u16, needs: u16) -> u16
-    ensures { result ≡ lacking_in bound needs (uses (expression_at s.now at)) }
-{
-    let first = code::after(at, 1);
-    let more = atom(s, first, bound, needs);
-    if code::operands(code::byte(s, at) as usize) == 2 {
-        atom(s, code::atom_end(s, first), bound, more)
-    } else {
-        more
-    }
-}
-
-// n temporaries that are used.
-fn temporaries(s: &[u8], at: usize, n: u8, bound: u16, needs: u16) -> u16
-    ensures { result ≡ lacking_in bound needs (run s.now at n) }
-{
-    let mut more = needs;
-    let mut next = at;
-    let mut left = n;
-    while 0 < left {
-        more = lacking(bound, more, code::byte(s, next));
-        next = code::after(next, 1);
-        left -= 1;
-    }
-    more
-}
-
-// Those of an argument list.
-fn arguments(s: &[u8], at: usize, bound: u16, needs: u16) -> u16
-    ensures { result ≡ lacking_in bound needs (arguments_at s.now at) }
-{
-    temporaries(s, code::after(at, 1), code::count(s, at), bound, needs)
-}
-
-// What is bound behind statements, what they need besides, and the offset behind them.
-#[derive(Clone, Copy)]
-struct Walked {
-    bound: u16,
-    needs: u16,
-    end: usize,
-}
-
-// n statements.
-fn statements(s: &[u8], at: usize, n: u8, bound: u16, needs: u16) -> Walked
-    ensures { result ≡ walked_at bound needs (statements_at s.now at n) (statements_end s.now at n) }
-{
-    let mut all = bound;
-    let mut more = needs;
-    let mut next = at;
-    let mut left = n;
-    while 0 < left {
-        let source = code::after(next, 1);
-        more = expression(s, source, all, more);
-        all = bound::bind(all, code::byte(s, next));
-        next = code::expression_end(s, source);
-        left -= 1;
-    }
-    Walked {
-        bound: all,
-        needs: more,
-        end: next,
-    }
-}
-
-// What the transfer at an offset uses itself.
-fn used(s: &[u8], at: usize, bound: u16, needs: u16) -> u16
-    ensures { result ≡ lacking_in bound needs (used_by (transfer_at s.now at)) }
-{
-    let first = code::after(at, 1);
-    match code::byte(s, at) {
-        0 => arguments(s, code::after(first, 1), bound, needs),
-        1 => expression(s, first, bound, needs),
-        2 => arguments(s, code::after(first, 1), bound, needs),
-        3 => arguments(s, first, bound, needs),
-        _ => needs,
-    }
-}
-
-// What a block binds, and what is needed with what it needs itself.
-#[derive(Clone, Copy)]
+// What is bound, and what is needed besides.
+#[derive(Clone, Copy, PartialEq, Eq, Debug)]
 struct Needed {
     bound: u16,
     needs: u16,
 }
 
-// The same of the code at an offset: statements, and their transfer.
-fn code_needs(s: &[u8], at: usize, bound: u16, needs: u16) -> Needed
-    ensures { result ≡ code_needs_at s.now at bound needs }
+// With x, where it is not bound.
+fn lacking(n: Needed, x: u8) -> Needed
+    ensures { result ≡ lacks n (x ∷ []) }
 {
-    let w = statements(s, code::after(at, 1), code::byte(s, at), bound, needs);
-    Needed {
-        bound: w.bound,
-        needs: used(s, w.end, w.bound, w.needs),
+    if bound::holds(n.bound, x) {
+        n
+    } else {
+        Needed {
+            needs: bound::bind(n.needs, x),
+            ..n
+        }
     }
 }
 
-// The same of the block at an offset: its parameters are bound, and behind them is its code.
+// With what an atom uses.
+fn atom(s: &[u8], at: usize, n: Needed) -> Needed
+    ensures { result ≡ lacks n (uses_atom (atom_at s.now at)) }
+{
+    if code::byte(s, at) == 0 {
+        n
+    } else {
+        lacking(n, code::byte(s, code::after(at, 1)))
+    }
+}
+
+// With what an expression uses.
+fn expression(s: &[u8], at: usize, n: Needed) -> Needed
+    ensures { result ≡ lacks n (uses (expression_at s.now at)) }
+{
+    let first = code::after(at, 1);
+    let more = atom(s, first, n);
+    if code::operands(code::byte(s, at) as usize) == 2 {
+        atom(s, code::atom_end(s, first), more)
+    } else {
+        more
+    }
+}
+
+// With so many temporaries that are used.
+fn temporaries(s: &[u8], at: usize, count: u8, n: Needed) -> Needed
+    ensures { result ≡ lacks n (run s.now at count) }
+{
+    let mut more = n;
+    let mut next = at;
+    'run: for _ in 0..count {
+        more = lacking(more, code::byte(s, next));
+        next = code::after(next, 1);
+    }
+    more
+}
+
+// With those of an argument list.
+fn arguments(s: &[u8], at: usize, n: Needed) -> Needed
+    ensures { result ≡ lacks n (arguments_at s.now at) }
+{
+    temporaries(s, code::after(at, 1), code::count(s, at), n)
+}
+
+// Behind so many statements: what they bind is bound, and what they need is needed. And the offset there.
+fn statements(s: &[u8], at: usize, count: u8, n: Needed) -> (Needed, usize)
+    ensures { result ≡ walked_at n (statements_at s.now at count) (statements_end s.now at count) }
+{
+    let mut more = n;
+    let mut next = at;
+    'statements: for _ in 0..count {
+        let source = code::after(next, 1);
+        more = expression(s, source, more);
+        more.bound = bound::bind(more.bound, code::byte(s, next));
+        next = code::expression_end(s, source);
+    }
+    (more, next)
+}
+
+// With what the transfer at an offset uses itself.
+fn used(s: &[u8], at: usize, n: Needed) -> Needed
+    ensures { result ≡ lacks n (used_by (transfer_at s.now at)) }
+{
+    let first = code::after(at, 1);
+    match code::kind_at(s, at) {
+        Kind::Goto | Kind::Call => arguments(s, code::after(first, 1), n),
+        Kind::If => expression(s, first, n),
+        Kind::Return => arguments(s, first, n),
+        Kind::Spork | Kind::Spoin => n,
+    }
+}
+
+// Behind the code at an offset: statements, and their transfer.
+fn code_needs(s: &[u8], at: usize, n: Needed) -> Needed
+    ensures { result ≡ code_needs_at s.now at n }
+{
+    let (walked, end) = statements(s, code::after(at, 1), code::byte(s, at), n);
+    used(s, end, walked)
+}
+
+// What the block at an offset binds, and what is needed with what it needs itself: its parameters are bound, and behind them is its
+// code.
 fn block_needs(s: &[u8], at: usize, needs: u16) -> Needed
     ensures { result ≡ block_needs_at s.now at needs }
 {
-    code_needs(s, code::list_end(s, at), bind_list(s, at, 0), needs)
+    let bound = bind_list(s, at, 0);
+    code_needs(s, code::list_end(s, at), Needed { bound, needs })
 }
 
 // The arguments of spawn call k of function f are needed.
@@ -379,8 +343,8 @@ fn spawn_needs(s: &[u8], places: &Places, f: usize, k: u8, needs: u16) -> u16
     ensures { Binds s.now places.now f k needs result }
 {
     match places::spawn(places, f, k as usize) {
-        Place::Nowhere => needs,
-        Place::At(at) => bind_list(s, code::after(at, 1), needs),
+        None => needs,
+        Some(at) => bind_list(s, code::after(at, 1), needs),
     }
 }
 
@@ -390,11 +354,9 @@ fn nesting_needs(s: &[u8], places: &Places, f: usize, n: Nesting, needs: u16) ->
 {
     let mut more = needs;
     let mut names = n.names;
-    let mut level = n.level;
-    while 1 < level {
+    'names: for _ in 1..n.level {
         more = spawn_needs(s, places, f, (names % 256) as u8, more);
-        names = names / 256;
-        level -= 1;
+        names /= 256;
     }
     more
 }
@@ -404,8 +366,8 @@ fn own(s: &[u8], places: &Places, f: usize, b: u8, words: &[u32]) -> Needed
     ensures { Owns s.now places.now f b words.now result }
 {
     match places::block(places, f, b as usize) {
-        Place::Nowhere => Needed { bound: 0, needs: 0 },
-        Place::At(at) => {
+        None => Needed { bound: 0, needs: 0 },
+        Some(at) => {
             let n = Nesting {
                 level: scopings::level(words, b),
                 names: scopings::names(words, b),
@@ -420,18 +382,7 @@ fn own(s: &[u8], places: &Places, f: usize, b: u8, words: &[u32]) -> Needed
 fn bound_by(bounds: &[u16], b: u8) -> u16
     ensures { result ≡ get_or bounds.now b 0 }
 {
-    let i = b as usize;
-    if i < bounds.len() { bounds[i] } else { 0 }
-}
-
-// It is kept from now on.
-fn keep(bounds: &mut [u16], b: u8, bound: u16)
-    ensures { bounds.new ≡ set bounds.old b bound }
-{
-    let i = b as usize;
-    if i < bounds.len() {
-        bounds[i] = bound;
-    }
+    bounds.get(b as usize).copied().unwrap_or(0)
 }
 
 // Block b of function f has in its scope what it needs itself, and what it binds is kept.
@@ -440,7 +391,7 @@ fn need(s: &[u8], places: &Places, f: usize, b: u8, words: &mut [u32], bounds: &
         words.new bounds.new }
 {
     let o = own(s, places, f, b, words);
-    keep(bounds, b, o.bound);
+    words::put(bounds, b as usize, o.bound);
     scopings::set_scope(words, b, o.needs);
 }
 
@@ -449,53 +400,40 @@ fn need_all(s: &[u8], places: &Places, f: usize, n: u8, words: &mut [u32], bound
     ensures { NeedsAll s.now places.now f n words.old bounds.old
         words.new bounds.new }
 {
-    let mut left = n;
-    while 0 < left {
-        left -= 1;
-        need(s, places, f, left, words, bounds);
+    for b in (0..n).rev() {
+        need(s, places, f, b, words, bounds);
     }
 }
 
-// What is needed, and what of a scope is not bound.
-fn joined(bound: u16, needs: u16, scope: u16) -> u16
-    ensures { result ≡ joined bound needs scope }
+// With what of a scope is not bound.
+fn joined(n: Needed, scope: u16) -> Needed
+    ensures { result ≡ joining n scope }
 {
-    needs | (scope - (scope & bound))
-}
-
-// The same of block b's scope.
-fn joined_one(words: &[u32], b: u8, bound: u16, needs: u16) -> u16
-    ensures { result ≡ joined_in bound needs (scope_in words.now) (b ∷ []) }
-{
-    joined(bound, needs, scopings::scope(words, b))
-}
-
-// The same of the two blocks that are named at an offset.
-fn joined_two(s: &[u8], at: usize, words: &[u32], bound: u16, needs: u16) -> u16
-    ensures { result ≡ joined_in bound needs (scope_in words.now) (run s.now at 2) }
-{
-    let one = joined_one(words, code::byte(s, at), bound, needs);
-    joined_one(words, code::byte(s, code::after(at, 1)), bound, one)
-}
-
-// The same of the targets of the transfer at an offset.
-fn joined_all(s: &[u8], at: usize, words: &[u32], bound: u16, needs: u16) -> u16
-    ensures { result ≡ joined_in bound needs (scope_in words.now) (targets (transfer_at s.now at)) }
-{
-    let first = code::after(at, 1);
-    match code::byte(s, at) {
-        0 => joined_one(words, code::byte(s, first), bound, needs),
-        1 => joined_two(s, code::expression_end(s, first), words, bound, needs),
-        2 => joined_one(
-            words,
-            code::byte(s, code::spawn_end(s, first)),
-            bound,
-            needs,
-        ),
-        3 => needs,
-        4 => joined_one(words, code::byte(s, first), bound, needs),
-        _ => joined_two(s, first, words, bound, needs),
+    Needed {
+        needs: n.needs | (scope & !n.bound),
+        ..n
     }
+}
+
+// With what of block b's scope is not bound.
+fn joined_one(words: &[u32], b: u8, n: Needed) -> Needed
+    ensures { result ≡ joins n (scope_in words.now) (b ∷ []) }
+{
+    joined(n, scopings::scope(words, b))
+}
+
+// With what of the scopes of the targets of the transfer at an offset is not bound.
+fn joined_all(s: &[u8], at: usize, words: &[u32], n: Needed) -> Needed
+    ensures { result ≡ joins n (scope_in words.now) (targets (transfer_at s.now at)) }
+{
+    let (first, count) = targets(s, at);
+    let mut more = n;
+    let mut next = first;
+    'named: for _ in 0..count {
+        more = joined_one(words, code::byte(s, next), more);
+        next = code::after(next, 1);
+    }
+    more
 }
 
 // The scope of block b of function f, and what the scopes of its targets need and it does not bind.
@@ -503,8 +441,14 @@ fn grown(s: &[u8], transfers: &Transfers, f: usize, b: u8, bounds: &[u16], words
     ensures { Grown s.now transfers.now f b bounds.now words.now result }
 {
     match transfers::transfer(transfers, f, b as usize) {
-        Place::Nowhere => 0,
-        Place::At(at) => joined_all(s, at, words, bound_by(bounds, b), scopings::scope(words, b)),
+        None => 0,
+        Some(at) => {
+            let n = Needed {
+                bound: bound_by(bounds, b),
+                needs: scopings::scope(words, b),
+            };
+            joined_all(s, at, words, n).needs
+        }
     }
 }
 
@@ -534,35 +478,29 @@ fn grow_all(
         words.new }
 {
     let mut changed = false;
-    let mut left = n;
-    while 0 < left {
-        left -= 1;
-        changed = either(changed, grow(s, transfers, f, left, bounds, words));
+    for b in (0..n).rev() {
+        changed |= grow(s, transfers, f, b, bounds, words);
     }
     changed
 }
 
-// Sixteen times as many rounds as there are blocks, or up to one that changes nothing.
+// Sixteen times as many rounds as there are blocks.
 fn settle(s: &[u8], transfers: &Transfers, f: usize, n: u8, bounds: &[u16], words: &mut [u32])
     ensures { Settles s.now transfers.now f n bounds.now words.old
         words.new }
 {
-    let mut left = 16 * (n as u16);
-    while 0 < left {
-        if grow_all(s, transfers, f, n, bounds, words) {
-            left -= 1;
-        } else {
-            return;
-        }
-    }
+    rounds(
+        16 * (n as u16),
+        words,
+        |words: &mut [u32]| grow_all(s, transfers, f, n, bounds, words),
+    );
 }
 
 // The temporaries 0 to n - 1, for n below 16.
 fn below(n: u8) -> u16
     ensures { result ≡ below (n % 16) }
 {
-    let one: u16 = 1;
-    (one << (n % 16)) - 1
+    (1 << (n % 16)) - 1
 }
 
 // The entry's scope: the parameters of function f.
@@ -570,8 +508,8 @@ fn given(s: &[u8], places: &Places, f: usize) -> u16
     ensures { Enters s.now places.now f result }
 {
     match places::function(places, f) {
-        Place::Nowhere => 0,
-        Place::At(at) => below(code::byte(s, at)),
+        None => 0,
+        Some(at) => below(code::byte(s, at)),
     }
 }
 

@@ -1,5 +1,5 @@
 -- The lists of kept numbers as the code has them, and what it says of them, for every program that places and transfers are those of.
-use Rattle.std.specs.Prelude.{ℕ, ◌+◌, ◌*◌, ◌^◌, ◌<◌, ◌≡◌, cond, List, map, ◌++◌, length, get_or, replicate}
+use Rattle.std.specs.Prelude.{ℕ, ◌^◌, ◌<◌, ◌≡◌, cond, List, map, ◌++◌, length, get_or, replicate}
 use Rattle.std.proofs.Math.Option.{some}
 use Rattle.std.proofs.Math.ListN.{get_elem?}
 use Rattle.model.specs.Lists.{Each, concat}
@@ -10,41 +10,37 @@ use Rattle.code.specs.Code.{run, transfer_at}
 use Rattle.places.specs.Places.{Places}
 use Rattle.transfers.specs.Transfers.{Transfers, transfer_in}
 use Rattle.numbering.specs.Mentions.{of, spawns_in, spawned_by, functions_in, ClosedIn, Closed}
+use Rattle.kept.specs.declared.Kept.{Kept}
 use Rattle.numbering.specs.Tidy.{member, Distinct, mentions, kept_blocks, kept_spawns, kept_functions, place}
 
--- the layout: room for so many numbers, and behind it the new number of each; the new number of a thing that is not kept
+-- room for so many numbers; the new number of a thing that is not kept
 abbrev pub most : ℕ
 most = 32
-
-abbrev pub numbers_from : ℕ
-numbers_from = most
-
-abbrev pub len : ℕ
-len = 2 * most
 
 abbrev pub absent : ℕ
 absent = 255
 
 -- nothing is kept
-unfoldable pub nothing : List ℕ
-nothing = replicate len absent
+unfoldable pub nothing : Kept
+nothing = record { order = replicate most absent; numbers = replicate most absent; count = 0 }
 
--- the new number of x, as the array has it
-abbrev pub number_in : List ℕ → ℕ → ℕ
-number_in list x = byte_at list (numbers_from + x)
+-- the new number of x, as the list has it
+abbrev pub number_in : Kept → ℕ → ℕ
+number_in list x = byte_at list.numbers x
 
--- the array has the n numbers xs, in their order, and the new number of each
-pub record Lists (list : List ℕ) (n : ℕ) (xs : List ℕ) : Type 0 where
-  pub sized : length list ≡ len
-  pub count : n ≡ length xs
+-- the list has the numbers xs, in their order, and the new number of each
+pub record Lists (list : Kept) (xs : List ℕ) : Type 0 where
+  pub room : length list.order ≡ most
+  pub sized : length list.numbers ≡ most
+  pub count : list.count ≡ length xs
   pub each : Each (λ x. x < most) xs
   pub distinct : Distinct xs
-  pub order : (i : ℕ) → i < n → byte_at list i ≡ get_or xs i 0
+  pub order : (i : ℕ) → i < list.count → byte_at list.order i ≡ get_or xs i 0
   pub numbers : (x : ℕ) → x < most → number_in list x ≡ cond (member x xs) (place xs x) absent
 
--- into the array come the mentions of these names, one after another
-pub record Adds (list : List ℕ) (n : ℕ) (names : List ℕ) (r : ℕ) (list' : List ℕ) : Type 0 where
-  pub is : (xs : List ℕ) → Lists list n xs → Each (λ x. x < most) names → Lists list' r (mentions xs names)
+-- into the list come the mentions of these names, one after another
+pub record Adds (list : Kept) (names : List ℕ) (list' : Kept) : Type 0 where
+  pub is : (xs : List ℕ) → Lists list xs → Each (λ x. x < most) names → Lists list' (mentions xs names)
 
 -- what is known of a program: the places are its; the transfers are its, in a table no longer than a machine's numbers go; both
 abbrev pub Placed : List ℕ → List ℕ → Program → Type 0
@@ -56,10 +52,10 @@ Ended s transfers P = (length s < 2 ^ 64) × Transfers s P transfers
 abbrev pub Known : List ℕ → List ℕ → List ℕ → Program → Type 0
 Known s places transfers P = Places s P places × Transfers s P transfers
 
--- into the array come the mentions of the names that function f has, in every program that this is known of and that mentions
+-- into the list come the mentions of the names that function f has, in every program that this is known of and that mentions
 -- what is there
-pub record AddsIn (Given : Program → Type 0) (f : ℕ) (names : Function → List ℕ) (list : List ℕ) (n r : ℕ) (list' : List ℕ) : Type 0 where
-  pub is : (P : Program) (F : Function) → Given P → get_elem? P f ≡ some F → ClosedIn P F → Adds list n (names F) r list'
+pub record AddsIn (Given : Program → Type 0) (f : ℕ) (names : Function → List ℕ) (list list' : Kept) : Type 0 where
+  pub is : (P : Program) (F : Function) → Given P → get_elem? P f ≡ some F → ClosedIn P F → Adds list (names F) list'
 
 -- such names: the spawn calls and the functions that block b mentions
 abbrev pub spawns_by : ℕ → Function → List ℕ
@@ -88,17 +84,16 @@ by_transfer names b F = of names (transfer_in (get_elem? F.blocks b))
 abbrev pub called_in : ℕ → Function → List ℕ
 called_in b F = by_transfer (called_of F) b F
 
--- the kept blocks of function f, into an array that has nothing; its kept spawn calls, by its kept blocks; the kept functions
-abbrev pub KeepsBlocks : List ℕ → List ℕ → ℕ → List ℕ → ℕ → List ℕ → Type 0
-KeepsBlocks s transfers f list r list' =
-    (P : Program) (F : Function) → Limits P → Ended s transfers P → get_elem? P f ≡ some F → ClosedIn P F → list ≡ nothing →
-    Lists list' r (kept_blocks F)
+-- the kept blocks of function f; its kept spawn calls, by its kept blocks; the kept functions
+abbrev pub KeepsBlocks : List ℕ → List ℕ → ℕ → Kept → Type 0
+KeepsBlocks s transfers f list =
+    (P : Program) (F : Function) → Limits P → Ended s transfers P → get_elem? P f ≡ some F → ClosedIn P F → Lists list (kept_blocks F)
 
-abbrev pub KeepsSpawns : List ℕ → List ℕ → List ℕ → ℕ → List ℕ → ℕ → List ℕ → ℕ → List ℕ → Type 0
-KeepsSpawns s places transfers f blocks count list r list' =
+abbrev pub KeepsSpawns : List ℕ → List ℕ → List ℕ → ℕ → Kept → Kept → Type 0
+KeepsSpawns s places transfers f blocks list =
     (P : Program) (F : Function) → Places s P places → Transfers s P transfers → get_elem? P f ≡ some F → ClosedIn P F →
-    Lists blocks count (kept_blocks F) → list ≡ nothing → Lists list' r (kept_spawns F)
+    Lists blocks (kept_blocks F) → Lists list (kept_spawns F)
 
-abbrev pub KeepsFunctions : List ℕ → List ℕ → List ℕ → List ℕ → ℕ → List ℕ → Type 0
-KeepsFunctions s places transfers list r list' =
-    (P : Program) → Places s P places → Transfers s P transfers → Closed P → list ≡ nothing → Lists list' r (kept_functions P)
+abbrev pub KeepsFunctions : List ℕ → List ℕ → List ℕ → Kept → Type 0
+KeepsFunctions s places transfers list =
+    (P : Program) → Places s P places → Transfers s P transfers → Closed P → Lists list (kept_functions P)

@@ -1,357 +1,247 @@
-// What a tidy table keeps: the blocks, spawn calls and functions, as lists of old numbers in their new order. A list is an array that
-// has the numbers from its start on and, behind room for them, the new number of each; how many there are is handed on beside it.
+// What a tidy table keeps: the blocks, spawn calls and functions, as lists of old numbers in their new order.
 #![tactic(auto)]
 
-ghost use Rattle.std.specs.Prelude.{◌≡◌, [], ◌∷◌, ◌+◌, min, set};
+ghost use Rattle.std.specs.Prelude.{◌≡◌, [], ◌∷◌};
 ghost use Rattle.code.specs.Code.{run, transfer_at};
 ghost use Rattle.model.specs.Syntax.{targets, sporked_by};
 ghost use Rattle.numbering.specs.Tidy.{mentioned_in};
 ghost use Rattle.kept.specs.Kept.{nothing, number_in, Adds, Placed, Ended, Known, AddsIn, spawns_by, functions_by, spawned_of};
 ghost use Rattle.kept.specs.Kept.{spawned_from, called_from, by_transfer, called_in, KeepsBlocks, KeepsSpawns, KeepsFunctions};
 
-use places::{Layout, Place, Places};
+use code::Kind;
+use places::{Layout, Places};
 use transfers::Transfers;
 
-// The array's record: how many numbers there is room for, where their new numbers begin, the array's length, and the new number of a
-// thing that is not kept.
-#[derive(Clone, Copy)]
-pub struct Kept {}
+// A list of kept numbers: its first `count` places have the old numbers in their new order, and for each old number there is its new
+// number, or ABSENT. Arrays and a count, since nothing is on the heap.
+#[derive(Clone, Copy, PartialEq, Eq, Debug)]
+pub struct Kept {
+    pub order: [u8; Kept::MOST],
+    pub numbers: [u8; Kept::MOST],
+    pub count: u8,
+}
 
 impl Kept {
     pub const MOST: usize = 32;
 
-    pub const NUMBERS_FROM: usize = Kept::MOST;
-
-    pub const LEN: usize = 2 * Kept::MOST;
-
     pub const ABSENT: u8 = 255;
-}
 
-// The kind of a spork among transfers.
-#[derive(Clone, Copy)]
-struct Kind {}
-
-impl Kind {
-    const SPORK: u8 = 4;
-}
-
-// An array with nothing kept.
-pub fn none() -> [u8; Kept::LEN]
-    ensures { result ≡ nothing }
-{
-    [Kept::ABSENT; Kept::LEN]
-}
-
-// The new number of x.
-pub fn number(list: &[u8], x: u8) -> u8
-    ensures { result ≡ number_in list.now x }
-{
-    code::byte(list, Kept::NUMBERS_FROM + x as usize)
-}
-
-// x at place i, where there is one.
-fn put(list: &mut [u8], i: usize, x: u8)
-    ensures { list.new ≡ set list.old i x }
-{
-    if i < list.len() {
-        list[i] = x;
+    // Nothing is kept.
+    pub fn none() -> Kept
+        ensures { result ≡ nothing }
+    {
+        Kept {
+            order: [Kept::ABSENT; Kept::MOST],
+            numbers: [Kept::ABSENT; Kept::MOST],
+            count: 0,
+        }
     }
-}
 
-// One more.
-fn more(n: u8) -> u8
-    ensures { result ≡ min (n + 1) 255 }
-{
-    if n < u8::MAX { n + 1 } else { n }
-}
-
-// A mention of x: it comes to the end of the n that there are, where it is not among them yet. How many there are then.
-fn mention(list: &mut [u8], n: u8, x: u8) -> u8
-    ensures { Adds list.old n (x ∷ []) result list.new }
-{
-    if number(list, x) != Kept::ABSENT {
-        return n;
+    // The new number of x.
+    pub fn number(&self, x: u8) -> u8
+        ensures { result ≡ number_in self.now x }
+    {
+        code::byte(&self.numbers, x as usize)
     }
-    put(list, n as usize, x);
-    put(list, Kept::NUMBERS_FROM + x as usize, n);
-    more(n)
+
+    // A mention of x: it comes to the end, where it is not among them yet.
+    fn mention(&mut self, x: u8)
+        ensures { Adds self.old (x ∷ []) self.new }
+    {
+        if self.number(x) != Kept::ABSENT {
+            return;
+        }
+        words::put(&mut self.order, self.count as usize, x);
+        words::put(&mut self.numbers, x as usize, self.count);
+        self.count = self.count.saturating_add(1);
+    }
 }
 
 // The two names at an offset.
-fn mention_two(s: &[u8], at: usize, list: &mut [u8], n: u8) -> u8
-    ensures { Adds list.old n (run s.now at 2) result list.new }
+fn mention_two(s: &[u8], at: usize, list: &mut Kept)
+    ensures { Adds list.old (run s.now at 2) list.new }
 {
-    let m = mention(list, n, code::byte(s, at));
-    mention(list, m, code::byte(s, code::after(at, 1)))
+    list.mention(code::byte(s, at));
+    list.mention(code::byte(s, code::after(at, 1)));
 }
 
 // The blocks that the transfer at an offset names.
-fn targets(s: &[u8], at: usize, list: &mut [u8], n: u8) -> u8
-    ensures { Adds list.old n (targets (transfer_at s.now at)) result list.new }
+fn targets(s: &[u8], at: usize, list: &mut Kept)
+    ensures { Adds list.old (targets (transfer_at s.now at)) list.new }
 {
     let first = code::after(at, 1);
-    match code::byte(s, at) {
-        0 => mention(list, n, code::byte(s, first)),
-        1 => mention_two(s, code::expression_end(s, first), list, n),
-        2 => mention(list, n, code::byte(s, code::spawn_end(s, first))),
-        3 => n,
-        4 => mention(list, n, code::byte(s, first)),
-        _ => mention_two(s, first, list, n),
+    match code::kind_at(s, at) {
+        Kind::Goto => list.mention(code::byte(s, first)),
+        Kind::If => mention_two(s, code::expression_end(s, first), list),
+        Kind::Call => list.mention(code::byte(s, code::spawn_end(s, first))),
+        Kind::Return => {}
+        Kind::Spork => list.mention(code::byte(s, first)),
+        Kind::Spoin => mention_two(s, first, list),
     }
 }
 
 // The blocks that block b of function f names.
-fn targets_in(s: &[u8], transfers: &Transfers, f: usize, b: u8, list: &mut [u8], n: u8) -> u8
-    ensures { AddsIn (Ended s.now transfers.now) f (by_transfer targets b) list.old n result
-        list.new }
+fn targets_in(s: &[u8], transfers: &Transfers, f: usize, b: u8, list: &mut Kept)
+    ensures { AddsIn (Ended s.now transfers.now) f (by_transfer targets b) list.old list.new }
 {
-    match transfers::transfer(transfers, f, b as usize) {
-        Place::Nowhere => n,
-        Place::At(at) => targets(s, at, list, n),
+    if let Some(at) = transfers::transfer(transfers, f, b as usize) {
+        targets(s, at, list);
     }
 }
 
 // The kept blocks of function f, the entry first: a list that grows while it is gone through.
-pub fn blocks(s: &[u8], transfers: &Transfers, f: usize, list: &mut [u8]) -> u8
-    ensures { KeepsBlocks s.now transfers.now f list.old result
-        list.new }
+pub fn blocks(s: &[u8], transfers: &Transfers, f: usize) -> Kept
+    ensures { KeepsBlocks s.now transfers.now f result }
 {
-    let mut n = mention(list, 0, 0);
-    let mut i = 0;
-    while i < Layout::BLOCKS {
-        if n as usize <= i {
-            return n;
+    let mut list = Kept::none();
+    list.mention(0);
+    for i in 0..Layout::BLOCKS {
+        if list.count as usize <= i {
+            return list;
         }
-        let b = code::byte(list, i);
-        n = targets_in(s, transfers, f, b, list, n);
-        i += 1;
+        targets_in(s, transfers, f, code::byte(&list.order, i), &mut list);
     }
-    n
+    list
 }
 
 // So many names from an offset on.
-fn mention_names(s: &[u8], at: usize, count: u8, list: &mut [u8], n: u8) -> u8
-    ensures { Adds list.old n (run s.now at count) result list.new }
+fn mention_names(s: &[u8], at: usize, count: u8, list: &mut Kept)
+    ensures { Adds list.old (run s.now at count) list.new }
 {
-    let mut m = n;
     let mut next = at;
-    let mut left = count;
-    while 0 < left {
-        m = mention(list, m, code::byte(s, next));
+    'names: for _ in 0..count {
+        list.mention(code::byte(s, next));
         next = code::after(next, 1);
-        left -= 1;
     }
-    m
 }
 
 // The spawn call that the transfer at an offset names, if it is a spork.
-fn sporked(s: &[u8], at: usize, list: &mut [u8], n: u8) -> u8
-    ensures { Adds list.old n (sporked_by (transfer_at s.now at)) result list.new }
+fn sporked(s: &[u8], at: usize, list: &mut Kept)
+    ensures { Adds list.old (sporked_by (transfer_at s.now at)) list.new }
 {
-    if code::byte(s, at) == Kind::SPORK {
-        mention(list, n, code::byte(s, code::after(at, 2)))
-    } else {
-        n
+    if let Kind::Spork = code::kind_at(s, at) {
+        list.mention(code::byte(s, code::after(at, 2)));
     }
 }
 
-// The spawn call that the transfer of block b of function f names.
-fn sporked_in(s: &[u8], transfers: &Transfers, f: usize, b: u8, list: &mut [u8], n: u8) -> u8
-    ensures { AddsIn (Ended s.now transfers.now) f (by_transfer sporked_by b) list.old n result
-        list.new }
+// The spawn call that the transfer of block b of function f names. It is `targets_in` but for one call; a closure for it is no plainer.
+fn sporked_in(s: &[u8], transfers: &Transfers, f: usize, b: u8, list: &mut Kept)
+    ensures { AddsIn (Ended s.now transfers.now) f (by_transfer sporked_by b) list.old list.new }
 {
-    match transfers::transfer(transfers, f, b as usize) {
-        Place::Nowhere => n,
-        Place::At(at) => sporked(s, at, list, n),
+    if let Some(at) = transfers::transfer(transfers, f, b as usize) {
+        sporked(s, at, list);
     }
 }
 
 // The spawn calls that block b of function f names: its nesting, then its transfer.
-fn spawns_in(
-    s: &[u8],
-    places: &Places,
-    transfers: &Transfers,
-    f: usize,
-    b: u8,
-    list: &mut [u8],
-    n: u8,
-) -> u8
-    ensures { AddsIn (Known s.now places.now transfers.now) f (spawns_by b) list.old n result
-        list.new }
+fn spawns_in(s: &[u8], places: &Places, transfers: &Transfers, f: usize, b: u8, list: &mut Kept)
+    ensures { AddsIn (Known s.now places.now transfers.now) f (spawns_by b) list.old list.new }
 {
-    match places::block(places, f, b as usize) {
-        Place::Nowhere => n,
-        Place::At(at) => {
-            let h = code::head(s, at);
-            let m = mention_names(s, h.nesting, h.depth, list, n);
-            sporked_in(s, transfers, f, b, list, m)
-        }
+    if let Some(at) = places::block(places, f, b as usize) {
+        let h = code::head(s, at);
+        mention_names(s, h.nesting, h.depth, list);
+        sporked_in(s, transfers, f, b, list);
     }
 }
 
 // The kept spawn calls of function f, by its kept blocks.
-pub fn spawns(
-    s: &[u8],
-    places: &Places,
-    transfers: &Transfers,
-    f: usize,
-    blocks: &[u8],
-    count: u8,
-    list: &mut [u8],
-) -> u8
-    ensures { KeepsSpawns s.now places.now transfers.now f blocks.now count
-        list.old result list.new }
+pub fn spawns(s: &[u8], places: &Places, transfers: &Transfers, f: usize, blocks: &Kept) -> Kept
+    ensures { KeepsSpawns s.now places.now transfers.now f blocks.now result }
 {
-    let mut n = 0;
-    let mut i = 0;
-    while i < count {
-        n = spawns_in(
+    let mut list = Kept::none();
+    for i in 0..blocks.count {
+        spawns_in(
             s,
             places,
             transfers,
             f,
-            code::byte(blocks, i as usize),
-            list,
-            n,
+            code::byte(&blocks.order, i as usize),
+            &mut list,
         );
-        i += 1;
     }
-    n
+    list
 }
 
 // The function of spawn call k of function f.
-fn spawned(s: &[u8], places: &Places, f: usize, k: u8, list: &mut [u8], n: u8) -> u8
-    ensures { AddsIn (Placed s.now places.now) f (spawned_of k) list.old n result list.new }
+fn spawned(s: &[u8], places: &Places, f: usize, k: u8, list: &mut Kept)
+    ensures { AddsIn (Placed s.now places.now) f (spawned_of k) list.old list.new }
 {
-    match places::spawn(places, f, k as usize) {
-        Place::Nowhere => n,
-        Place::At(at) => mention(list, n, code::byte(s, at)),
+    if let Some(call) = places::spawn(places, f, k as usize) {
+        list.mention(code::byte(s, call));
     }
 }
 
 // The functions of so many spawn calls, which are named from an offset on.
-fn spawned_names(
-    s: &[u8],
-    places: &Places,
-    f: usize,
-    at: usize,
-    count: u8,
-    list: &mut [u8],
-    n: u8,
-) -> u8
-    ensures { AddsIn (Placed s.now places.now) f (spawned_from s.now at count)
-        list.old n result list.new }
+fn spawned_names(s: &[u8], places: &Places, f: usize, at: usize, count: u8, list: &mut Kept)
+    ensures { AddsIn (Placed s.now places.now) f (spawned_from s.now at count) list.old list.new }
 {
-    let mut m = n;
     let mut next = at;
-    let mut left = count;
-    while 0 < left {
-        m = spawned(s, places, f, code::byte(s, next), list, m);
+    'names: for _ in 0..count {
+        spawned(s, places, f, code::byte(s, next), list);
         next = code::after(next, 1);
-        left -= 1;
     }
-    m
 }
 
 // The function that the transfer at an offset names: a call's, or that of a spork's spawn call.
-fn called(s: &[u8], places: &Places, f: usize, at: usize, list: &mut [u8], n: u8) -> u8
-    ensures { AddsIn (Placed s.now places.now) f (called_from s.now at) list.old n result
-        list.new }
+fn called(s: &[u8], places: &Places, f: usize, at: usize, list: &mut Kept)
+    ensures { AddsIn (Placed s.now places.now) f (called_from s.now at) list.old list.new }
 {
-    match code::byte(s, at) {
-        2 => mention(list, n, code::byte(s, code::after(at, 1))),
-        4 => spawned(s, places, f, code::byte(s, code::after(at, 2)), list, n),
-        _ => n,
+    match code::kind_at(s, at) {
+        Kind::Call => list.mention(code::byte(s, code::after(at, 1))),
+        Kind::Spork => spawned(s, places, f, code::byte(s, code::after(at, 2)), list),
+        Kind::Goto | Kind::If | Kind::Return | Kind::Spoin => {}
     }
 }
 
 // The function that the transfer of block b of function f names.
-fn called_in(
-    s: &[u8],
-    places: &Places,
-    transfers: &Transfers,
-    f: usize,
-    b: u8,
-    list: &mut [u8],
-    n: u8,
-) -> u8
-    ensures { AddsIn (Known s.now places.now transfers.now) f (called_in b) list.old n result
-        list.new }
+fn called_in(s: &[u8], places: &Places, transfers: &Transfers, f: usize, b: u8, list: &mut Kept)
+    ensures { AddsIn (Known s.now places.now transfers.now) f (called_in b) list.old list.new }
 {
-    match transfers::transfer(transfers, f, b as usize) {
-        Place::Nowhere => n,
-        Place::At(at) => called(s, places, f, at, list, n),
+    if let Some(at) = transfers::transfer(transfers, f, b as usize) {
+        called(s, places, f, at, list);
     }
 }
 
 // The functions that block b of function f names: by its nesting, then by its transfer.
-fn functions_in(
-    s: &[u8],
-    places: &Places,
-    transfers: &Transfers,
-    f: usize,
-    b: u8,
-    list: &mut [u8],
-    n: u8,
-) -> u8
-    ensures { AddsIn (Known s.now places.now transfers.now) f (functions_by b)
-        list.old n result list.new }
+fn functions_in(s: &[u8], places: &Places, transfers: &Transfers, f: usize, b: u8, list: &mut Kept)
+    ensures { AddsIn (Known s.now places.now transfers.now) f (functions_by b) list.old list.new }
 {
-    match places::block(places, f, b as usize) {
-        Place::Nowhere => n,
-        Place::At(at) => {
-            let h = code::head(s, at);
-            let m = spawned_names(s, places, f, h.nesting, h.depth, list, n);
-            called_in(s, places, transfers, f, b, list, m)
-        }
+    if let Some(at) = places::block(places, f, b as usize) {
+        let h = code::head(s, at);
+        spawned_names(s, places, f, h.nesting, h.depth, list);
+        called_in(s, places, transfers, f, b, list);
     }
 }
 
 // The functions that function f names in its kept blocks.
-fn mentioned_in(
-    s: &[u8],
-    places: &Places,
-    transfers: &Transfers,
-    f: usize,
-    list: &mut [u8],
-    n: u8,
-) -> u8
-    ensures { AddsIn (Known s.now places.now transfers.now) f mentioned_in list.old n result
-        list.new }
+fn mentioned_in(s: &[u8], places: &Places, transfers: &Transfers, f: usize, list: &mut Kept)
+    ensures { AddsIn (Known s.now places.now transfers.now) f mentioned_in list.old list.new }
 {
-    let mut kept = none();
-    let count = blocks(s, transfers, f, &mut kept);
-    let mut m = n;
-    let mut i = 0;
-    while i < count {
-        m = functions_in(
+    let kept = blocks(s, transfers, f);
+    for i in 0..kept.count {
+        functions_in(
             s,
             places,
             transfers,
             f,
-            code::byte(&kept, i as usize),
+            code::byte(&kept.order, i as usize),
             list,
-            m,
         );
-        i += 1;
     }
-    m
 }
 
 // The kept functions, main first.
-pub fn functions(s: &[u8], places: &Places, transfers: &Transfers, list: &mut [u8]) -> u8
-    ensures { KeepsFunctions s.now places.now transfers.now list.old result
-        list.new }
+pub fn functions(s: &[u8], places: &Places, transfers: &Transfers) -> Kept
+    ensures { KeepsFunctions s.now places.now transfers.now result }
 {
-    let mut n = mention(list, 0, 0);
-    let mut i = 0;
-    while i < Layout::FUNCTIONS {
-        if n as usize <= i {
-            return n;
+    let mut list = Kept::none();
+    list.mention(0);
+    for i in 0..Layout::FUNCTIONS {
+        if list.count as usize <= i {
+            return list;
         }
-        let f = code::byte(list, i);
-        n = mentioned_in(s, places, transfers, f as usize, list, n);
-        i += 1;
+        let f = code::byte(&list.order, i);
+        mentioned_in(s, places, transfers, f as usize, &mut list);
     }
-    n
+    list
 }

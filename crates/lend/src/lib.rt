@@ -5,38 +5,28 @@
 
 ghost use Rattle.lend.specs.Lent.{LendsWords, LendsPool};
 
-use answers::{Answer, No, Refusal};
+use answers::{No, Refusal};
 use places::Places;
 use pool::Pool;
 
 // The table, and as many words as a pool has.
-pub fn words(table: &[u8], places: &mut Places, pool: &[i32]) -> Answer
+pub fn words(table: &[u8], places: &mut Places, pool: &[i32]) -> Result<(), Refusal>
     ensures { LendsWords table.now pool.now places.old places.new result }
 {
-    match table::read(table, places) {
-        Answer::Refused(why) => Answer::Refused(why),
-        Answer::Given => {
-            if pool.len() == Pool::WORDS {
-                Answer::Given
-            } else {
-                Answer::Refused(Refusal::Plain(No::WORDS))
-            }
-        }
+    table::read(table, places)?;
+    if pool.len() != Pool::WORDS {
+        return Err(Refusal::Plain(No::WORDS));
     }
+    Ok(())
 }
 
 // The table, and a pool of it.
-pub fn pool(table: &[u8], places: &mut Places, pool: &[i32]) -> Answer
+pub fn pool(table: &[u8], places: &mut Places, pool: &[i32]) -> Result<(), Refusal>
     ensures { LendsPool table.now pool.now places.old places.new result }
 {
-    match words(table, places, pool) {
-        Answer::Refused(why) => Answer::Refused(why),
-        Answer::Given => {
-            if valid::is_pool(table, places, pool) {
-                Answer::Given
-            } else {
-                Answer::Refused(Refusal::Plain(No::POOL))
-            }
-        }
+    words(table, places, pool)?;
+    if !valid::is_pool(table, places, pool) {
+        return Err(Refusal::Plain(No::POOL));
     }
+    Ok(())
 }

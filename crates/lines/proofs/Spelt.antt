@@ -1,16 +1,20 @@
 -- The text of values, one after another.
-use Prim.Native.Nat.{ℕ, ◌+◌, ◌≤◌, ◌<◌}
+use Prim.Native.Nat.{ℕ, ◌+◌, ◌≤◌, ◌<◌, min}
+use native.Mathlib.Omega.{arith}
 use native.Mathlib.Numerals.{add-one}
-use mathlib.Core.Path.{◌≡◌, sym, ap, ◌∙◌}
+use mathlib.Core.Path.{◌≡◌, refl, sym, ap, ◌∙◌}
 use mathlib.Core.List.{List, [], ◌∷◌, ◌++◌, map, append-nil, append_assoc}
-use mathlib.Core.Bool.{true, false}
+use mathlib.Core.Bool.{Bool, true, false}
+use lib.Dec.{leb}
+use borrow.Author.Tests.{leb-true, leb-false}
 use lib.IntN.{ℤ, pos}
 use lib.ListN.{length, take, get_or}
 use lib.Seq.{take-suc, take_all}
 use Rattle.model.specs.Lists.{concat}
 use Rattle.model.specs.Text.{ascii, newline, signed_part}
 use Rattle.model.specs.Output.{values_or_open, result_line}
-use Rattle.eval.specs.declared.Looked.{Looked}
+use Rattle.std.specs.Prelude.{None, Some}
+use Rattle.eval.specs.declared.Values.{Values}
 use Rattle.eval.specs.Given.{values_of, looked_of}
 use Rattle.puts.specs.Puts.{Puts}
 use Rattle.puts.proofs.Laws.{none, then, same}
@@ -32,25 +36,31 @@ turned v̄ i p h q =
     (sym (spelt-more (take i v̄) (get_or v̄ i (pos 0))) ∙ ap spelt (sym (take-suc v̄ i (pos 0) h)
     ∙ ap (λ (n : ℕ). take n v̄) (sym (add-one i))))
 
-pub all-turned : {d : List ℕ} {at : ℕ} (v̄ : List ℤ) (i n : ℕ) {r : ℕ} {d' : List ℕ} → Puts d at (spelt (take i v̄)) r d'
-    → length v̄ ≤ i → length v̄ ≤ n → Puts d at (spelt (take n v̄)) r d'
-all-turned v̄ i n p a b = same p (ap spelt (take_all i v̄ a ∙ sym (take_all n v̄ b)))
-
-pub counted : {d : List ℕ} {at : ℕ} (v̄ : List ℤ) (i n : ℕ) {r : ℕ} {d' : List ℕ} → Puts d at (spelt (take i v̄)) r d' → i ≡ n
-    → Puts d at (spelt (take n v̄)) r d'
-counted v̄ i n p e = same p (ap (λ (m : ℕ). spelt (take m v̄)) e)
+pub all-turned : {d : List ℕ} {at : ℕ} (v̄ w̄ : List ℤ) (i : ℕ) {r : ℕ} {d' : List ℕ} → Puts d at (spelt (take i v̄)) r d'
+    → length v̄ ≤ i → v̄ ≡ w̄ → Puts d at (spelt w̄) r d'
+all-turned v̄ w̄ i p h e = same p (ap spelt (take_all i v̄ h ∙ e))
 
 pub nothing : {d : List ℕ} {at : ℕ} (v̄ : List ℤ) → Puts d at (spelt (take 0 v̄)) at d
 unfolding concat
 nothing v̄ = none
 
--- the last line: main's values, or that they are open
-pub given : (d d₁ d₂ d₃ : List ℕ) (at k m r : ℕ) (l : Looked) → l.ok ≡ true → Puts d at (ascii "result") k d₁
-    → Puts d₁ k (spelt (values_of l.values)) m d₂ → Puts d₂ m newline r d₃ → Puts d at (result_line (looked_of l)) r d₃
-unfolding result_line values_or_open
-given d d₁ d₂ d₃ at k m r l e p q s = rw e (then (then p q) s)
+-- no more values than there are
+pub few : (v̄ : List ℤ) (n m : ℕ) → length v̄ ≡ m → take (min n m) v̄ ≡ take n v̄
+few v̄ n m e = go (leb n m) refl
+  where
+    go : (b : Bool) → leb n m ≡ b → take (min n m) v̄ ≡ take n v̄
+    go true t = let h : n ≤ m = leb-true n m t in ap (λ (k : ℕ). take k v̄) (omega arith)
+    go false t =
+        let h : m < n = leb-false n m t in
+        take_all (min n m) v̄ (omega arith) ∙ sym (take_all n v̄ (omega arith))
 
-pub left_open : (d d₁ d₂ d₃ : List ℕ) (at k m r : ℕ) (l : Looked) → l.ok ≡ false → Puts d at (ascii "result") k d₁
-    → Puts d₁ k (ascii " open") m d₂ → Puts d₂ m newline r d₃ → Puts d at (result_line (looked_of l)) r d₃
+-- the last line: main's values, or that they are open
+pub given : (d d₁ d₂ d₃ : List ℕ) (at k m r : ℕ) (v : Values) → Puts d at (ascii "result") k d₁
+    → Puts d₁ k (spelt (values_of v)) m d₂ → Puts d₂ m newline r d₃ → Puts d at (result_line (looked_of (Some v))) r d₃
 unfolding result_line values_or_open
-left_open d d₁ d₂ d₃ at k m r l e p q s = rw e (then (then p q) s)
+given d d₁ d₂ d₃ at k m r v p q s = then (then p q) s
+
+pub left_open : (d d₁ d₂ d₃ : List ℕ) (at k m r : ℕ) → Puts d at (ascii "result") k d₁
+    → Puts d₁ k (ascii " open") m d₂ → Puts d₂ m newline r d₃ → Puts d at (result_line (looked_of None)) r d₃
+unfolding result_line values_or_open
+left_open d d₁ d₂ d₃ at k m r p q s = then (then p q) s

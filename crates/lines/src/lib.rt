@@ -12,69 +12,53 @@ ghost use Rattle.steps.specs.Choice.{made_of};
 ghost use Rattle.puts.specs.Puts.{Puts};
 
 use answers::{No, Refusal, Rule};
-use eval::{Looked, Values};
-use steps::Made;
+use eval::Values;
 
-// A space, and the name of a choice's kind; a bad kind is a number.
+// A space, and the name of a choice's kind; a bad kind is a number, so it is no enum.
+#[tactic(auto, using(crate::proofs::Names::kinds))]
 fn kind_name(out: &mut [u8], at: usize, kind: u8) -> usize
     ensures { Puts out.old at (spaced (kind_name kind)) result out.new }
 {
-    if kind == 0 {
-        return puts::bytes(out, at, b" step");
+    match kind {
+        0 => puts::bytes(out, at, b" step"),
+        1 => puts::bytes(out, at, b" promote"),
+        _ => text::part(out, at, kind as u64),
     }
-    if kind == 1 {
-        return puts::bytes(out, at, b" promote");
-    }
-    text::part(out, at, kind as u64)
 }
 
 // A space, and the name of a rule.
-fn rule_name(out: &mut [u8], at: usize, rule: u8) -> usize
-    ensures { Puts out.old at (spaced (rule_name rule)) result out.new }
+#[tactic(auto, using(crate::proofs::Names::rule_names))]
+fn rule_name(out: &mut [u8], at: usize, rule: Rule) -> usize
+    ensures { Puts out.old at (spaced (rule_name rule.0)) result out.new }
 {
-    if rule == Rule::STMT {
-        return puts::bytes(out, at, b" stmt");
+    match rule {
+        Rule::STMT => puts::bytes(out, at, b" stmt"),
+        Rule::GOTO => puts::bytes(out, at, b" goto"),
+        Rule::THEN => puts::bytes(out, at, b" then"),
+        Rule::ELSE => puts::bytes(out, at, b" else"),
+        Rule::CALL => puts::bytes(out, at, b" call"),
+        Rule::RETURN => puts::bytes(out, at, b" return"),
+        Rule::SPORK => puts::bytes(out, at, b" spork"),
+        Rule::UNPR => puts::bytes(out, at, b" unpr"),
+        Rule::PROM => puts::bytes(out, at, b" prom"),
+        _ => puts::bytes(out, at, b" promote"),
     }
-    if rule == Rule::GOTO {
-        return puts::bytes(out, at, b" goto");
-    }
-    if rule == Rule::THEN {
-        return puts::bytes(out, at, b" then");
-    }
-    if rule == Rule::ELSE {
-        return puts::bytes(out, at, b" else");
-    }
-    if rule == Rule::CALL {
-        return puts::bytes(out, at, b" call");
-    }
-    if rule == Rule::RETURN {
-        return puts::bytes(out, at, b" return");
-    }
-    if rule == Rule::SPORK {
-        return puts::bytes(out, at, b" spork");
-    }
-    if rule == Rule::UNPR {
-        return puts::bytes(out, at, b" unpr");
-    }
-    if rule == Rule::PROM {
-        return puts::bytes(out, at, b" prom");
-    }
-    puts::bytes(out, at, b" promote")
 }
 
 // A refusal: its number, and its place where it has one.
+#[tactic(auto, using(crate::proofs::Refusals::refusals))]
 pub fn refusal(out: &mut [u8], at: usize, why: Refusal) -> usize
     ensures { Puts out.old at (Output.refusal (refusal_of why)) result out.new }
 {
     let k = puts::bytes(out, at, b"refused");
     match why {
-        Refusal::Plain(number) => text::part(out, k, number as u64),
+        Refusal::Plain(number) => text::part(out, k, number.0 as u64),
         Refusal::Byte(place) => {
-            let k = text::part(out, k, No::FORM as u64);
+            let k = text::part(out, k, No::FORM.0 as u64);
             text::part(out, k, place as u64)
         }
         Refusal::Fault(number, function, block) => {
-            let k = text::part(out, k, number as u64);
+            let k = text::part(out, k, number.0 as u64);
             let k = text::part(out, k, function as u64);
             text::part(out, k, block as u64)
         }
@@ -82,20 +66,28 @@ pub fn refusal(out: &mut [u8], at: usize, why: Refusal) -> usize
 }
 
 // A space, and what a choice answers.
-fn told(out: &mut [u8], at: usize, made: Made) -> usize
+#[tactic(auto, using(crate::proofs::Refusals::answers))]
+fn told(out: &mut [u8], at: usize, made: Result<Rule, No>) -> usize
     ensures { Puts out.old at (spaced (Output.told (made_of made))) result out.new }
 {
     match made {
-        Made::Rule(rule) => rule_name(out, at, rule),
-        Made::Refused(number) => {
+        Ok(rule) => rule_name(out, at, rule),
+        Err(number) => {
             let k = puts::bytes(out, at, b" refused");
-            text::part(out, k, number as u64)
+            text::part(out, k, number.0 as u64)
         }
     }
 }
 
 // The line of a choice.
-pub fn choice(out: &mut [u8], at: usize, index: u64, kind: u8, thread: u8, made: Made) -> usize
+pub fn choice(
+    out: &mut [u8],
+    at: usize,
+    index: u64,
+    kind: u8,
+    thread: u8,
+    made: Result<Rule, No>,
+) -> usize
     ensures { Puts out.old at (choice_line index kind thread (made_of made)) result out.new }
 {
     let k = text::decimal(out, at, index);
@@ -109,29 +101,21 @@ pub fn choice(out: &mut [u8], at: usize, index: u64, kind: u8, thread: u8, made:
 fn values(out: &mut [u8], at: usize, v: Values) -> usize
     ensures { Puts out.old at (concat (map signed_part (values_of v))) result out.new }
 {
-    let count = v.count as usize;
-    let all = v.at;
     let mut k = at;
-    let mut i = 0;
-    while i < Values::MOST {
-        if count <= i {
-            return k;
-        }
-        k = text::signed_part(out, k, all[i]);
-        i += 1;
+    for x in &v.at[..(v.count as usize).min(Values::MOST)] {
+        k = text::signed_part(out, k, *x);
     }
     k
 }
 
 // The last line: main's values, or that they are open.
-pub fn result(out: &mut [u8], at: usize, main: Looked) -> usize
+pub fn result(out: &mut [u8], at: usize, main: Option<Values>) -> usize
     ensures { Puts out.old at (result_line (looked_of main)) result out.new }
 {
     let k = puts::bytes(out, at, b"result");
-    if main.ok {
-        let k = values(out, k, main.values);
-        return text::line(out, k);
-    }
-    let k = puts::bytes(out, k, b" open");
+    let k = match main {
+        Some(v) => values(out, k, v),
+        None => puts::bytes(out, k, b" open"),
+    };
     text::line(out, k)
 }

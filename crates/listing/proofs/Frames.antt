@@ -1,10 +1,10 @@
 -- A thread that the words hold: its frames where they stand, its seven numbers, and how many children it has.
-use Prim.Native.Nat.{ℕ, ◌+◌, ◌-◌, ◌<◌, ◌≤◌}
+use Prim.Native.Nat.{ℕ, ◌+◌, ◌≤◌}
 use native.Mathlib.Omega.{arith}
 use mathlib.Core.Path.{◌≡◌, refl, sym, ap, subst, ◌∙◌}
-use mathlib.Core.List.{List, [], ◌∷◌, ◌++◌, append_assoc, append-nil}
+use mathlib.Core.List.{List, [], ◌∷◌, ◌++◌, append_assoc}
 use lib.IntN.{ℤ}
-use lib.ListN.{length, length-append, length-take, length-drop}
+use lib.ListN.{length, length-take, length-drop}
 use Rattle.model.specs.Lists.{Each}
 use Rattle.model.specs.Text.{newline, decimal, part}
 use Rattle.model.specs.Pool.{Frame, Thread, temporaries, frame_words, start_of, frames, children}
@@ -65,53 +65,25 @@ module _ (who : Viewer) (k : Frame) {out : List ℕ} {at : ℕ} where
   unfolding values
   customers-values e p = rw e p
 
--- promoted calls, counted from the newest frame down to frame j
+-- promoted calls of the oldest j frames
 abbrev pub Counted : List ℤ → ℕ → ℕ → ℕ → Type 0
 Counted ws i sum j =
-    (t : Thread) → IsThread ws i t → (K₁ K₂ : List Frame) → frames t ≡ K₁ ++ K₂ → length K₂ ≡ j → sum ≡ children K₁
+    (t : Thread) → IsThread ws i t → (K₁ K₂ : List Frame) → frames t ≡ K₁ ++ K₂ → length K₂ ≡ j → sum ≡ children K₂
 
-children-append : (K L : List Frame) → children (K ++ L) ≡ children K + children L
+pub counted_none : (ws : List ℤ) (i : ℕ) → Counted ws i 0 0
 unfolding children
-children-append [] L = omega arith
-children-append (k ∷ K) L = omega (arith, children-append K L)
+counted_none ws i t h K₁ [] f l = refl
+counted_none ws i t h K₁ (k ∷ K₂) f l = absurd (omega (arith, l))
 
-none_above : (K₁ K₂ : List Frame) → length K₂ ≡ length (K₁ ++ K₂) → 0 ≡ children K₁
+pub counted-one : (ws : List ℤ) (i : ℕ) {sum j k p : ℕ} → Counted ws i sum j → k ≡ start_of i j → p ≡ (frame_at ws k).promoted
+    → Counted ws i (sum + p) (j + 1)
 unfolding children
-none_above [] K₂ e = refl
-none_above (k ∷ K₁) K₂ e = absurd (omega (arith, length-append K₁ K₂))
+counted-one ws i c f g t h K₁ [] x l = absurd (omega (arith, l))
+counted-one ws i {sum} {j} {k} {p} c f g t h K₁ (q ∷ K₂) x l =
+    let m : length K₂ ≡ j = omega (arith, l) in
+    let a : sum ≡ children K₂ = c t h (K₁ ++ (q ∷ [])) K₂ (x ∙ sym (append_assoc K₁ (q ∷ []) K₂)) m in
+    let b : p ≡ q.promoted = g ∙ ap (λ (o : Frame). o.promoted) (frame_is h K₁ q K₂ f x m) in
+    omega (arith, a, b)
 
-pub counted_none : (ws : List ℤ) (i : ℕ) {j : ℕ} → j ≡ frames_in ws i → Counted ws i 0 j
-counted_none ws i e t h K₁ K₂ f l = none_above K₁ K₂ (l ∙ e ∙ frames-counted h.thread ∙ ap length f)
-
--- a list that is not empty, as all but its last and the last
-record Last (K : List Frame) : Type 0 where
-  front : List Frame
-  item : Frame
-  is : K ≡ front ++ (item ∷ [])
-
-last_of : (k : Frame) (K : List Frame) → Last (k ∷ K)
-last_of k [] = record { front = []; item = k; is = refl }
-last_of k (m ∷ K) =
-    let l = last_of m K in record { front = k ∷ l.front; item = l.item; is = ap {B = List Frame} (λ x. k ∷ x) l.is }
-
-module _ (ws : List ℤ) (i : ℕ) {sum n j k p : ℕ} (c : Counted ws i sum n) (h : 0 < n) (few : n ≤ frames_in ws i) (e : j ≡ n - 1)
-    (f : k ≡ start_of i j) (g : p ≡ (frame_at ws k).promoted) where
-  one_placed : (t : Thread) → IsThread ws i t → (K : List Frame) (q : Frame) (K₂ : List Frame) → frames t ≡ K ++ q ∷ K₂ → length K₂ ≡ j
-      → sum + p ≡ children (K ++ (q ∷ []))
-  unfolding children
-  one_placed t s K q K₂ y l =
-      let a : sum ≡ children K = c t s K (q ∷ K₂) y (omega (arith, l)) in
-      let b : p ≡ q.promoted = g ∙ ap (λ (o : Frame). o.promoted) (frame_is s K q K₂ f y l) in
-      let d : children (K ++ (q ∷ [])) ≡ children K + (q.promoted + 0) = children-append K (q ∷ []) in
-      omega (arith, a, b, d)
-
-  pub counted-one : Counted ws i (sum + p) j
-  counted-one t s [] K₂ x l = absurd (omega (arith, frames-counted s.thread, ap length x))
-  counted-one t s (m ∷ K) K₂ x l =
-      let r = last_of m K in
-      let y : frames t ≡ r.front ++ r.item ∷ K₂ =
-      x ∙ ap (λ (M : List Frame). M ++ K₂) r.is ∙ append_assoc r.front (r.item ∷ []) K₂ in
-      one_placed t s r.front r.item K₂ y l ∙ ap children (sym r.is)
-
-pub counted-all : (ws : List ℤ) (i : ℕ) {sum j : ℕ} → Counted ws i sum j → ¬ 0 < j → CountsChildren ws i sum
-counted-all ws i c h t s = c t s (frames t) [] (sym (append-nil (frames t))) (omega arith)
+pub counted-all : (ws : List ℤ) (i : ℕ) {sum j n : ℕ} → Counted ws i sum j → n ≡ frames_in ws i → j ≡ n → CountsChildren ws i sum
+counted-all ws i c e d t h = c t h [] (frames t) refl (sym (frames-counted h.thread) ∙ sym e ∙ sym d)

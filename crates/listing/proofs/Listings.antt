@@ -1,11 +1,12 @@
 -- The whole listing: where it is put, whether it fits, and what the call answers and leaves.
-use Prim.Native.Nat.{ℕ, ◌^◌, ◌%◌, ◌<◌, ◌≤◌}
+use Prim.Native.Nat.{ℕ, ◌^◌, ◌<◌, ◌≤◌}
 use native.Mathlib.Omega.{arith}
 use native.Mathlib.Nat.{zero-add}
 use mathlib.Core.Path.{◌≡◌, refl, sym, ap, ◌∙◌}
 use mathlib.Core.Bool.{Bool, true, false}
 use mathlib.Core.List.{List, ◌++◌}
 use lib.Dec.{leb}
+use Rattle.std.specs.Prelude.{Result, Ok, Err}
 use lib.IntN.{ℤ}
 use lib.ListN.{length, drop}
 use lib.Seq.{sets-eq}
@@ -16,7 +17,7 @@ use Rattle.model.proofs.Facts.{each_map, le-leb, leb-true, leb-false, put-fits, 
 use Rattle.model.proofs.Valid.{pool-facts, some-thread}
 use Rattle.model.proofs.Words.{pool-fits}
 use Rattle.answers.specs.Answers.{refusal_of, Writes}
-use Rattle.answers.specs.declared.Written.TheVariants as written
+use Rattle.answers.specs.declared.No.{No as Code}
 use Rattle.answers.specs.declared.Refusal as Why
 use Rattle.answers.specs.declared.Refusal.TheVariants.{Plain}
 use Rattle.lend.proofs.Lending.{Lending}
@@ -57,11 +58,10 @@ module _ {s places : List ℕ} {ws : List ℤ} (l : Lending s places ws) where
       }
 
 -- what the call answers: a refusal of the table or the words
-pub list-refused : (who : Viewer) (s : List ℕ) (ws : List ℤ) (out : List ℕ) (why : Why.Refusal)
-    → lent s ws ≡ Answer.refused (refusal_of why)
-    → Writes (list (viewer_of who) s ws out) (written.Refused why) out
+pub list-refused : (who : Viewer) (s : List ℕ) (ws : List ℤ) (out : List ℕ) (why : Why.Refusal) {r : Result ℕ Why.Refusal}
+    → lent s ws ≡ Answer.refused (refusal_of why) → r ≡ Err why → Writes (list (viewer_of who) s ws out) r out
 unfolding list listed
-list-refused who s ws out why e = rw e (record { answer = refl; after = refl })
+list-refused who s ws out why e d = rw (e, d) (record { answer = refl; after = refl })
 
 -- 28, and the listing
 module _ (short : Short) (who : Viewer) {s places : List ℕ} {ws : List ℤ} (l : Lending s places ws) (out : List ℕ) where
@@ -75,18 +75,26 @@ module _ (short : Short) (who : Viewer) {s places : List ℕ} {ws : List ℤ} (l
   long : length text ≤ listing_bytes
   long = short (viewer_of who) s ws l.what l.is
 
-  pub list-short : {b : Bool} {n : ℕ} → n ≡ No.listing → Fits who ws (length out) b → b ≡ false
-      → Writes (list (viewer_of who) s ws out) (written.Refused (Plain n)) out
+  pub list-short : {b : Bool} {n : Code} → n.0 ≡ No.listing → Fits who ws (length out) b → b ≡ false
+      → Writes (list (viewer_of who) s ws out) (Err (Plain n)) out
   list-short i u h =
       let f : leb (length text) (length out) ≡ false = sym (u l.what.pool (lent-holds l) long) ∙ h in
       rw (is-put, put-short No.listing out text (leb-false _ _ f), i) (record { answer = refl; after = refl })
 
+  list-length : {n : ℕ} {out' : List ℕ} → length out < 2 ^ 63 → PutsListing who ws out n out' → n ≡ length text
+  list-length small q =
+      let w = (q l.what.pool (lent-holds l)).is (omega arith) small in
+      omega (arith, long, w.0)
+
+  pub list-word : {n : ℕ} {out' : List ℕ} → length out < 2 ^ 63 → PutsListing who ws out n out' → n < 2 ^ 32
+  list-word small q = omega (arith, long, list-length small q)
+
   pub list-given : {b : Bool} {n : ℕ} {out' : List ℕ} → length out < 2 ^ 63 → Fits who ws (length out) b → b ≡ true
-      → PutsListing who ws out n out' → Writes (list (viewer_of who) s ws out) (written.Bytes (n % 4294967296)) out'
+      → PutsListing who ws out n out' → Writes (list (viewer_of who) s ws out) (Ok n) out'
   list-given {b} {n} {out'} small u h q =
       let f : length text ≤ length out = leb-true _ _ (sym (u l.what.pool (lent-holds l) long) ∙ h) in
       let w = (q l.what.pool (lent-holds l)).is (omega arith) small in
-      let m : n % 4294967296 ≡ length text = omega (arith, long, w.0) in
+      let m : n ≡ length text = list-length small q in
       let e : out' ≡ text ++ drop (length text) out =
       w.1 ∙ sets-eq text out 0 (omega (arith, f)) ∙ ap (λ (k : ℕ). text ++ drop k out) (zero-add (length text)) in
       rw (is-put, put-fits No.listing out text f, m) (record { answer = refl; after = e })

@@ -1,8 +1,8 @@
 -- Texts of a line that are put in a loop: spaces, and the bound temporaries with their values.
-use Prim.Native.Nat.{ℕ, zero, suc, ◌+◌, ◌-◌, ◌/◌, ◌%◌, ◌^◌, ◌<◌}
+use Prim.Native.Nat.{ℕ, suc, ◌+◌, ◌-◌, ◌/◌, ◌%◌, ◌^◌, ◌≤◌, ◌<◌}
 use native.Mathlib.Omega.{arith}
 use native.Mathlib.Numerals.{add-one}
-use mathlib.Core.Path.{◌≡◌, refl, sym, ap, subst, ◌∙◌}
+use mathlib.Core.Path.{◌≡◌, refl, ap, subst, ◌∙◌}
 use mathlib.Core.Bool.{cond}
 use mathlib.Core.List.{List, [], ◌∷◌, ◌++◌}
 use lib.IntN.{ℤ, pos}
@@ -17,16 +17,18 @@ use Rattle.puts.proofs.Left.{Left, less-left, none_left}
 use Rattle.views.specs.Lines.{indent, bindings}
 
 module _ {d : List ℕ} {at : ℕ} {xs : List ℕ} where
-  -- one space fewer is left, and none
-  pub one-space : {d' : List ℕ} {k : ℕ} (n : ℕ) {m : ℕ} {d'' : List ℕ} → 0 < n → Left d at xs d' k (indent n) → Puts d' k (32 ∷ []) m d''
-      → Left d at xs d'' m (indent (n - 1))
-  one-space zero h l p = absurd (omega arith)
-  one-space (suc n) {m} {d''} h l p =
-      let e : suc n - 1 ≡ n = omega arith in
-      subst (λ (j : ℕ). Left d at xs d'' m (indent j)) (sym e) (less-left (32 ∷ []) (indent n) l p)
+  -- of n spaces all are left, one fewer, and none
+  pub all-spaces : {d' : List ℕ} {k : ℕ} (n : ℕ) → Left d at xs d' k (indent n) → Left d at xs d' k (indent (n - 0))
+  all-spaces {d'} {k} n l = let e : n ≡ n - 0 = omega arith in subst (λ (j : ℕ). Left d at xs d' k (indent j)) e l
 
-  pub no-space : {d' : List ℕ} {k : ℕ} (n : ℕ) → ¬ 0 < n → Left d at xs d' k (indent n) → Puts d at xs k d'
-  no-space {d'} {k} n h l = let e : n ≡ 0 = omega arith in none_left (subst (λ (j : ℕ). Left d at xs d' k (indent j)) e l)
+  pub one-space : {d' d'' : List ℕ} {k m : ℕ} (n i : ℕ) → i < n → Left d at xs d' k (indent (n - i)) → Puts d' k (32 ∷ []) m d''
+      → Left d at xs d'' m (indent (n - (i + 1)))
+  one-space {d'} {k = k} n i h l p =
+      let e : n - i ≡ suc (n - (i + 1)) = omega arith in
+      less-left (32 ∷ []) (indent (n - (i + 1))) (subst (λ (j : ℕ). Left d at xs d' k (indent j)) e l) p
+
+  pub no-space : {d' : List ℕ} {k : ℕ} (n i : ℕ) → n ≤ i → Left d at xs d' k (indent (n - i)) → Puts d at xs k d'
+  no-space {d'} {k} n i h l = let e : n - i ≡ 0 = omega arith in none_left (subst (λ (j : ℕ). Left d at xs d' k (indent j)) e l)
 
 -- a temporary that is bound, and one that is not
 module _ (Γ x : ℕ) (v : ℤ) {d : List ℕ} {at : ℕ} where

@@ -6,7 +6,7 @@
 ghost use Rattle.std.specs.Prelude.{◌+◌, ◌≤◌, ◌<◌, ◌≡◌, cond, [], ◌++◌, length};
 ghost use Rattle.model.specs.Sets.{has};
 ghost use Rattle.model.specs.Text.{part, signed_part};
-ghost use Rattle.model.specs.Pool.{most_threads, temporaries, frame_words, pool_words};
+ghost use Rattle.model.specs.Pool.{most_threads, temporaries, frame_words};
 ghost use Rattle.answers.specs.Answers.{Writes};
 ghost use Rattle.pool.specs.InPlace.{frame_at};
 ghost use Rattle.puts.specs.Puts.{Puts};
@@ -15,18 +15,18 @@ ghost use Rattle.views.specs.Listing as Model;
 ghost use Rattle.listing.specs.Shown.{viewer_of, CountsChildren, PutsStanding, PutsLine, ListsThread, ListsChildren};
 ghost use Rattle.listing.specs.Shown.{PutsListing, Fits};
 
-use answers::{Answer, No, Refusal, Written};
-use pool::Pool;
+use answers::{No, Refusal};
+use pool::{Pool, Words};
 
 // Who is shown a listing: the operator, who sees no values, or the customer.
-#[derive(Clone, Copy)]
+#[derive(Clone, Copy, PartialEq, Eq, Debug)]
 pub enum Viewer {
     Operator,
     Customer,
 }
 
 // The place behind lines that were put, and the number of the first thread that is not listed yet.
-#[derive(Clone, Copy)]
+#[derive(Clone, Copy, PartialEq, Eq, Debug)]
 pub struct Listed {
     pub at: usize,
     pub next: usize,
@@ -45,10 +45,8 @@ fn indent(out: &mut [u8], at: usize, depth: usize) -> usize
     ensures { Puts out.old at (indent depth) result out.new }
 {
     let mut k = at;
-    let mut left = depth;
-    while 0 < left {
+    'levels: for _ in 0..depth {
         k = puts::byte(out, k, b' ');
-        left -= 1;
     }
     k
 }
@@ -66,8 +64,8 @@ fn position(out: &mut [u8], at: usize, ws: &[i32], frame: usize) -> usize
 }
 
 // The seven numbers of a thread: its own, how many frames it has, and those of its newest frame.
-fn standing(out: &mut [u8], at: usize, ws: &[i32], thread: usize) -> usize
-    requires { (length ws.now ≡ pool_words) × (thread < most_threads) }
+fn standing(out: &mut [u8], at: usize, ws: &Words, thread: usize) -> usize
+    requires { thread < most_threads }
     ensures { PutsStanding ws.now thread out.old at result out.new }
 {
     let k = text::decimal(out, at, thread as u64);
@@ -95,10 +93,8 @@ fn bindings(out: &mut [u8], at: usize, ws: &[i32], frame: usize) -> usize
 {
     let bound = pool::bound(ws, frame);
     let mut k = at;
-    let mut x: u8 = 0;
-    while (x as usize) < Pool::TEMPORARIES {
+    for x in 0..Pool::TEMPORARIES as u8 {
         k = binding(out, k, bound, x, pool::value(ws, frame, x));
-        x += 1;
     }
     k
 }
@@ -115,8 +111,8 @@ fn values(who: Viewer, out: &mut [u8], at: usize, ws: &[i32], frame: usize) -> u
 }
 
 // A thread's line.
-fn line(who: Viewer, out: &mut [u8], at: usize, ws: &[i32], thread: usize, depth: usize) -> usize
-    requires { (length ws.now ≡ pool_words) × (thread < most_threads) }
+fn line(who: Viewer, out: &mut [u8], at: usize, ws: &Words, thread: usize, depth: usize) -> usize
+    requires { thread < most_threads }
     ensures { PutsLine who ws.now thread depth out.old at result out.new }
 {
     let k = indent(out, at, depth);
@@ -126,15 +122,13 @@ fn line(who: Viewer, out: &mut [u8], at: usize, ws: &[i32], thread: usize, depth
 }
 
 // How many children a thread has: its promoted calls, over all frames.
-fn children(ws: &[i32], thread: usize) -> usize
-    requires { (length ws.now ≡ pool_words) × (thread < most_threads) }
+fn children(ws: &Words, thread: usize) -> usize
+    requires { thread < most_threads }
     ensures { CountsChildren ws.now thread result }
 {
-    let mut sum: usize = 0;
-    let mut left = pool::frame_count(ws, thread);
-    while 0 < left {
-        left -= 1;
-        sum += pool::promoted(ws, Pool::frame_start(thread, left)) as usize;
+    let mut sum = 0;
+    for frame in 0..pool::frame_count(ws, thread) {
+        sum += pool::promoted(ws, Pool::frame_start(thread, frame)) as usize;
     }
     sum
 }
@@ -145,11 +139,11 @@ fn thread_lines(
     who: Viewer,
     out: &mut [u8],
     at: usize,
-    ws: &[i32],
+    ws: &Words,
     thread: usize,
     depth: usize,
 ) -> Listed
-    requires { (length ws.now ≡ pool_words) × (thread < most_threads) × (depth ≤ thread) }
+    requires { (thread < most_threads) × (depth ≤ thread) }
     ensures next { thread < result.next }
     ensures is { ListsThread who ws.now thread depth out.old at result out.new }
 {
@@ -163,12 +157,12 @@ fn child_lines(
     who: Viewer,
     out: &mut [u8],
     at: usize,
-    ws: &[i32],
+    ws: &Words,
     next: usize,
     count: usize,
     depth: usize,
 ) -> Listed
-    requires { (length ws.now ≡ pool_words) × (depth ≤ next) }
+    requires { depth ≤ next }
     ensures next { next ≤ result.next }
     ensures is { ListsChildren who ws.now next count depth out.old at result out.new }
 {
@@ -183,8 +177,7 @@ fn child_lines(
 }
 
 // The listing, from the start on: thread 0's lines.
-fn lines(who: Viewer, out: &mut [u8], ws: &[i32]) -> usize
-    requires { length ws.now ≡ pool_words }
+fn lines(who: Viewer, out: &mut [u8], ws: &Words) -> usize
     ensures { PutsListing who ws.now out.old result out.new }
 {
     let l = thread_lines(who, out, 0, ws, 0, 0);
@@ -193,8 +186,7 @@ fn lines(who: Viewer, out: &mut [u8], ws: &[i32]) -> usize
 
 // Whether the listing has room in so many bytes: in as many as listings have at most it has, and else it is put where there is room for
 // one byte, which tells where it ends.
-fn fits(who: Viewer, ws: &[i32], room: usize) -> bool
-    requires { length ws.now ≡ pool_words }
+fn fits(who: Viewer, ws: &Words, room: usize) -> bool
     ensures { Fits who ws.now room result }
 {
     if Listing::MOST <= room {
@@ -205,31 +197,26 @@ fn fits(who: Viewer, ws: &[i32], room: usize) -> bool
 }
 
 // Writes a viewer's listing: 1 to 3, 12, 13, 28, or its length. Table and pool are only read.
-fn list(who: Viewer, table: &[u8], pool: &[i32], out: &mut [u8]) -> Written
+fn list(who: Viewer, table: &[u8], pool: &[i32], out: &mut [u8]) -> Result<u32, Refusal>
     ensures { Writes (Model.list (viewer_of who) table.now pool.now out.old) result out.new }
 {
     let mut places = places::none();
-    match lend::pool(table, &mut places, pool) {
-        Answer::Refused(why) => Written::Refused(why),
-        Answer::Given => {
-            if fits(who, pool, out.len()) {
-                let length = lines(who, out, pool);
-                Written::Bytes((length % 4294967296) as u32)
-            } else {
-                Written::Refused(Refusal::Plain(No::LISTING))
-            }
-        }
+    lend::pool(table, &mut places, pool)?;
+    let ws: &Words = pool.as_array().unwrap();
+    if !fits(who, ws, out.len()) {
+        return Err(Refusal::Plain(No::LISTING));
     }
+    Ok(lines(who, out, ws) as u32)
 }
 
 // The operator's listing, and the customer's.
-pub fn operator(table: &[u8], pool: &[i32], out: &mut [u8]) -> Written
+pub fn operator(table: &[u8], pool: &[i32], out: &mut [u8]) -> Result<u32, Refusal>
     ensures { Writes (Model.operator table.now pool.now out.old) result out.new }
 {
     list(Viewer::Operator, table, pool, out)
 }
 
-pub fn customer(table: &[u8], pool: &[i32], out: &mut [u8]) -> Written
+pub fn customer(table: &[u8], pool: &[i32], out: &mut [u8]) -> Result<u32, Refusal>
     ensures { Writes (Model.customer table.now pool.now out.old) result out.new }
 {
     list(Viewer::Customer, table, pool, out)

@@ -9,9 +9,10 @@ use Rattle.model.specs.Pool.{most_threads}
 use Rattle.model.specs.Calls.{which}
 use Rattle.model.proofs.Kept.{OnSome}
 use Rattle.model.proofs.Numbers.{Can, OfLent, which-can}
-use Rattle.calls.specs.declared.Stepping.{Stepping}
+use Rattle.std.specs.Prelude.{Option as Found, Some, Ok}
 use Rattle.calls.specs.Calls.{stepping_of}
 
-pub which-there : (s : List ℕ) (ws : List ℤ) (i : ℕ) (r : Stepping) → stepping_of r ≡ which s ws → r ≡ Stepping.Thread i → i < most_threads
-which-there s ws i r h e =
-    subst (λ (a : Answer (Option ℕ)). Can (OnSome (λ j. j < most_threads)) (OfLent s) a) (sym h ∙ ap stepping_of e) (which-can s ws)
+pub which-there : (s : List ℕ) (ws : List ℤ) {o : Found ℕ} {i : ℕ} → stepping_of (Ok o) ≡ which s ws → o ≡ Some i → i < most_threads
+which-there s ws h e =
+    subst (λ (a : Answer (Option ℕ)). Can (OnSome (λ j. j < most_threads)) (OfLent s) a)
+    (sym h ∙ ap (λ (o : Found ℕ). stepping_of (Ok o)) e) (which-can s ws)

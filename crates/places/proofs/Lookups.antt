@@ -12,11 +12,10 @@ use Rattle.model.specs.Read.{Parser, block_by, function_by, spawn_call}
 use Rattle.model.specs.Pool.{block_in}
 use Rattle.model.specs.Limits.{InFunction, Limits}
 use Rattle.model.proofs.Facts.{each_at, past-at, eq-eqb, ne_eqb}
-use Rattle.places.specs.declared.Place.{Place}
-use Rattle.places.specs.declared.Place.TheVariants.{Nowhere}
+use Rattle.std.specs.Prelude.{None}
 use Rattle.places.specs.Layout.{functions, spawns, blocks, absent, function_index, block_index, spawn_index, length_index}
 use Rattle.places.specs.Marks.{length_of}
-use Rattle.places.specs.Places.{place_of, code_of, Heads, FoundCode, FindsCode, spawn_in, Entry, Found, FindsFunction}
+use Rattle.places.specs.Places.{Place, place_of, code_of, Heads, FoundCode, FindsCode, spawn_in, Entry, Found, FindsFunction}
 use Rattle.places.specs.Places.{FindsBlock, FindsSpawn}
 
 -- an entry is the place of what is there
@@ -59,7 +58,7 @@ module _ (places : List ℕ) (f : ℕ) where
   pub function-at : {r : Place} → r ≡ place_of (get_or places (function_index f) 0) → f < functions → FindsFunction places f r
   function-at e l s P p h = rw e (found (function_by p) s (get_or places (function_index f) 0) (get_elem? P f) (h.functions f l))
 
-  pub function-past : functions ≤ f → FindsFunction places f Nowhere
+  pub function-past : functions ≤ f → FindsFunction places f None
   function-past l s P p h = no-function P h.limits f l
 
   pub block-at : (b : ℕ) {r : Place} → r ≡ place_of (get_or places (block_index f b) 0) → f < functions → b < blocks
@@ -74,17 +73,17 @@ module _ (places : List ℕ) (f : ℕ) where
       (coded p s (get_or places (block_index f b) 0) b (get_or places (length_index f b) 0) (block_in (get_elem? P f) b) (h.blocks f b l m)
       (h.heads f b l m))
 
-  pub code-past : (b : ℕ) → blocks ≤ b → FindsCode places f b Nowhere
+  pub code-past : (b : ℕ) → blocks ≤ b → FindsCode places f b None
   code-past b l s P p h = no_block P h.limits f b l
 
-  pub code-none : (b : ℕ) → functions ≤ f → FindsCode places f b Nowhere
+  pub code-none : (b : ℕ) → functions ≤ f → FindsCode places f b None
   unfolding block_in
   code-none b l s P p h = rw (no-function P h.limits f l) refl
 
-  pub block-past : (b : ℕ) → blocks ≤ b → FindsBlock places f b Nowhere
+  pub block-past : (b : ℕ) → blocks ≤ b → FindsBlock places f b None
   block-past b l s P p h = no_block P h.limits f b l
 
-  pub block_none : (b : ℕ) → functions ≤ f → FindsBlock places f b Nowhere
+  pub block_none : (b : ℕ) → functions ≤ f → FindsBlock places f b None
   unfolding block_in
   block_none b l s P p h = rw (no-function P h.limits f l) refl
 
@@ -93,10 +92,10 @@ module _ (places : List ℕ) (f : ℕ) where
   spawn-at π e l m s P p h =
       rw e (found spawn_call s (get_or places (spawn_index f π) 0) (spawn_in (get_elem? P f) π) (h.spawns f π l m))
 
-  pub spawn-past : (π : ℕ) → spawns ≤ π → FindsSpawn places f π Nowhere
+  pub spawn-past : (π : ℕ) → spawns ≤ π → FindsSpawn places f π None
   spawn-past π l s P p h = no-spawn P h.limits f π l
 
-  pub spawn-none : (π : ℕ) → functions ≤ f → FindsSpawn places f π Nowhere
+  pub spawn-none : (π : ℕ) → functions ≤ f → FindsSpawn places f π None
   unfolding spawn_in
   spawn-none π l s P p h = rw (no-function P h.limits f l) refl
 

@@ -1,6 +1,6 @@
 -- The places of a table: where each function, block and spawn call begins, as one array of offsets in which everything is looked
 -- up by number. The head's parser is a parameter, as it is of the grammar.
-use Rattle.std.specs.Prelude.{ℕ, ◌+◌, ◌^◌, ◌<◌, ◌≡◌, cond, List, eqb, length, get_or}
+use Rattle.std.specs.Prelude.{ℕ, ◌+◌, ◌^◌, ◌<◌, ◌≡◌, cond, List, eqb, length, get_or, Option as Optional, Some, None}
 use Rattle.std.proofs.Math.Option.{Option, none, some}
 use Rattle.std.proofs.Math.ListN.{get_elem?}
 use Rattle.model.specs.Syntax.{Head, Block, SpawnCall, Function, Program}
@@ -8,18 +8,20 @@ use Rattle.model.specs.Read as Read
 use Rattle.model.specs.Read.{Parsed, Parser, block_by, function_by, spawn_call}
 use Rattle.model.specs.Pool.{block_in}
 use Rattle.model.specs.Limits.{Limits}
-use Rattle.places.specs.declared.Place.{Place}
-use Rattle.places.specs.declared.Place.TheVariants.{At, Nowhere}
 use Rattle.places.specs.Layout as Layout
 use Rattle.places.specs.Marks.{length_of}
 
+-- where a thing begins, or that there is none
+abbrev pub Place : Type 0
+Place = Optional ℕ
+
 -- the place that an entry stands for
 abbrev pub place_of : ℕ → Place
-place_of at = cond (eqb at Layout.absent) Nowhere (At at)
+place_of at = cond (eqb at Layout.absent) None (Some at)
 
 -- the place behind a block's head, by the block's entry and that of the length
 abbrev pub code_of : ℕ → ℕ → ℕ → Place
-code_of at b both = cond (eqb at Layout.absent) Nowhere (At (at + length_of b both))
+code_of at b both = cond (eqb at Layout.absent) None (Some (at + length_of b both))
 
 -- the spawn call numbered π of a function
 unfoldable pub spawn_in : Option Function → ℕ → Option SpawnCall
@@ -62,8 +64,8 @@ Places s P places = PlacesBy Read.head s P places
 
 -- what a lookup finds: the place at which p reads what is there, or that there is nothing
 abbrev pub Found : {A : Type 0} → Parser A → List ℕ → Place → Option A → Type 0
-Found {A} p s (At at) o = (a : A) × (o ≡ some a) × Reads p s at a
-Found p s Nowhere o = o ≡ none
+Found {A} p s (Some at) o = (a : A) × (o ≡ some a) × Reads p s at a
+Found p s None o = o ≡ none
 
 -- where a block's code begins: behind its head, wherever the block stands
 pub record CodeAt (p : Parser Head) (s : List ℕ) (e : ℕ) (B : Block) : Type 0 where
@@ -72,8 +74,8 @@ pub record CodeAt (p : Parser Head) (s : List ℕ) (e : ℕ) (B : Block) : Type 
   pub head : p s at ≡ Parsed.ok B.head e
 
 abbrev pub FoundCode : Parser Head → List ℕ → Place → Option Block → Type 0
-FoundCode p s (At e) o = (B : Block) × (o ≡ some B) × CodeAt p s e B
-FoundCode p s Nowhere o = o ≡ none
+FoundCode p s (Some e) o = (B : Block) × (o ≡ some B) × CodeAt p s e B
+FoundCode p s None o = o ≡ none
 
 -- the contracts of the lookups, for every table and program that the array has the places of, whatever its heads are read by
 abbrev pub FindsFunction : List ℕ → ℕ → Place → Type 0

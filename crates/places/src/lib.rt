@@ -7,13 +7,6 @@ ghost use Rattle.places.specs.Layout.{functions, spawns, blocks};
 ghost use Rattle.places.specs.Marks.{nowhere, short, mark_function, mark_spawn, mark_block, mark_head, paired, length_of};
 ghost use Rattle.places.specs.Places.{place_of, code_of, FindsFunction, FindsBlock, FindsCode, FindsSpawn};
 
-// Where a thing begins, or that there is none.
-#[derive(Clone, Copy)]
-pub enum Place {
-    At(usize),
-    Nowhere,
-}
-
 // The array's record: how many functions there are places for, and how many spawn calls, blocks and pairs of lengths of each; where
 // the spawn calls, the blocks and the lengths begin; the array's length, and the entry of a thing that is not there.
 #[derive(Clone, Copy)]
@@ -40,6 +33,8 @@ impl Layout {
 }
 
 // The places: an offset for each function, spawn call and block, and the lengths of the heads, in the order of the layout.
+// A table's bytes stand beside them as a parameter of their own: a struct of both is put in memory at each call, and behind a reference
+// each contract would say `t.now.bytes.now` for `s.now`, which is no plainer.
 pub type Places = [u16; Layout::LEN];
 
 // An array with no places.
@@ -60,11 +55,7 @@ pub fn clear(places: &mut Places)
 fn short(at: usize) -> u16
     ensures { result ≡ short at }
 {
-    if at < Layout::ABSENT as usize {
-        at as u16
-    } else {
-        Layout::ABSENT
-    }
+    at.min(Layout::ABSENT as usize) as u16
 }
 
 // Function f begins at the offset.
@@ -112,29 +103,29 @@ pub fn mark_head(places: &mut Places, f: usize, b: usize, before: usize, n: usiz
 }
 
 // The place that an entry stands for.
-pub fn entry(at: u16) -> Place
+pub fn entry(at: u16) -> Option<usize>
     ensures { result ≡ place_of at }
 {
     if at == Layout::ABSENT {
-        Place::Nowhere
+        None
     } else {
-        Place::At(at as usize)
+        Some(at as usize)
     }
 }
 
 // Function f.
-pub fn function(places: &Places, f: usize) -> Place
+pub fn function(places: &Places, f: usize) -> Option<usize>
     ensures { FindsFunction places.now f result }
 {
     if f < Layout::FUNCTIONS {
         entry(places[f])
     } else {
-        Place::Nowhere
+        None
     }
 }
 
 // Block b of function f.
-pub fn block(places: &Places, f: usize, b: usize) -> Place
+pub fn block(places: &Places, f: usize, b: usize) -> Option<usize>
     ensures { FindsBlock places.now f b result }
 {
     if f < Layout::FUNCTIONS {
@@ -142,7 +133,7 @@ pub fn block(places: &Places, f: usize, b: usize) -> Place
             return entry(places[Layout::BLOCKS_FROM + Layout::BLOCKS * f + b]);
         }
     }
-    Place::Nowhere
+    None
 }
 
 // The length of block b's head, in an entry of two: no test, since what a block's number is cannot be foreseen.
@@ -153,18 +144,18 @@ fn length(b: usize, both: u16) -> u16
 }
 
 // The place behind the head of block b, by the block's entry and that of the length.
-fn behind(block: u16, b: usize, both: u16) -> Place
+fn behind(block: u16, b: usize, both: u16) -> Option<usize>
     ensures { result ≡ code_of block b both }
 {
     if block == Layout::ABSENT {
-        Place::Nowhere
+        None
     } else {
-        Place::At(block as usize + length(b, both) as usize)
+        Some(block as usize + length(b, both) as usize)
     }
 }
 
 // Where the code of block b of function f begins, behind its head: there stands its number of statements.
-pub fn code(places: &Places, f: usize, b: usize) -> Place
+pub fn code(places: &Places, f: usize, b: usize) -> Option<usize>
     ensures { FindsCode places.now f b result }
 {
     if f < Layout::FUNCTIONS {
@@ -176,11 +167,11 @@ pub fn code(places: &Places, f: usize, b: usize) -> Place
             );
         }
     }
-    Place::Nowhere
+    None
 }
 
-// Spawn call k of function f.
-pub fn spawn(places: &Places, f: usize, k: usize) -> Place
+// Spawn call k of function f. The lookups differ in the limit and in where their part begins: as parameters these are no plainer.
+pub fn spawn(places: &Places, f: usize, k: usize) -> Option<usize>
     ensures { FindsSpawn places.now f k result }
 {
     if f < Layout::FUNCTIONS {
@@ -188,5 +179,5 @@ pub fn spawn(places: &Places, f: usize, k: usize) -> Place
             return entry(places[Layout::SPAWNS_FROM + Layout::SPAWNS * f + k]);
         }
     }
-    Place::Nowhere
+    None
 }

@@ -37,11 +37,8 @@ module _ (ws : List ℤ) (at : ℕ) where
   pub calls-le : length (frame_at ws at).calls ≤ most_calls
   calls-le = omega (arith, calls-length)
 
-  pub calls-few : {n : ℕ} → n ≡ bits_at ws (at + opened_at) % 256 → n < most_calls → n ≡ length (frame_at ws at).calls
-  calls-few e h = omega (arith, calls-length)
-
-  pub calls-all : {n : ℕ} → n ≡ bits_at ws (at + opened_at) % 256 → most_calls ≤ n → most_calls ≡ length (frame_at ws at).calls
-  calls-all e h = omega (arith, calls-length)
+  pub calls-open : {n r : ℕ} → n ≡ bits_at ws (at + opened_at) % 256 → r ≡ min n most_calls → r ≡ length (frame_at ws at).calls
+  calls-open e h = omega (arith, calls-length)
 
   -- an open call
   pub call_at : (n : ℕ) {r : ℕ} → n < length (frame_at ws at).calls → r ≡ bits_at ws (at + calls_at + n) % 256

@@ -1,5 +1,5 @@
 -- What the steps of each operation leave, for every pool that the words hold.
-use Prim.Native.Nat.{ℕ, suc, ◌+◌, ◌-◌, ◌%◌, min, ◌≤◌, ◌<◌}
+use Prim.Native.Nat.{ℕ, suc, ◌+◌, ◌-◌, ◌≤◌, ◌<◌}
 use mathlib.Core.Path.{◌≡◌, refl, sym, ap, subst⁻¹, ◌∙◌}
 use mathlib.Core.List.{List, [], ◌∷◌, ◌++◌}
 use native.Mathlib.Omega.{arith}
@@ -64,17 +64,6 @@ module _ {ws : List ℤ} {i : ℕ} {a b : Pool} {t : Thread} (h : ThreadAt ws i 
       let n : bits_at ws (thread_start i + tokens_at) ≡ t.purse.tokens =
       ap (of_z w32) (thread-word h tokens_at (lit≤ tt) ∙ thread-tokens t) in
       omega arith
-
--- a count that was read
-pub counted-frames : (ws : List ℤ) (i : ℕ) {at n : ℕ} → at ≡ thread_start i → n ≡ bits_at ws (at + frame_count_at)
-    → (n + (most_frames - 1)) % most_frames + 1 ≡ frames_in ws i
-counted-frames ws i p e =
-    let q : bits_at ws _ ≡ bits_at ws (thread_start i + frame_count_at) = ap (λ (at : ℕ). bits_at ws (at + frame_count_at)) p in
-    omega arith
-
-pub purse-read : (ws : List ℤ) (i : ℕ) {at n r : ℕ} (j most : ℕ) → at ≡ thread_start i → n ≡ bits_at ws (at + j) → r ≡ min n most
-    → r ≡ min (bits_at ws (thread_start i + j)) most
-purse-read ws i j most p e q = q ∙ ap (λ (m : ℕ). min m most) (e ∙ ap (λ (k : ℕ). bits_at ws (k + j)) p)
 
 -- words that are cleared, but for the count: those of a new thread of the empty frame
 was-born : (d : List ℤ) (at : ℕ) → at + thread_words ≤ length d

@@ -186,11 +186,6 @@ module _ {k : Frame} (s : Small k) where
         fits = record { calls = q; values = s.fits.values };
       }
 
-pub bound-fits : (Γ x : ℕ) → Γ < 65536 → x < temporaries → SFits w32 (pos (bit_or Γ (1 * 2 ^ x % 65536)))
-bound-fits Γ x h p =
-    let n : bit_or Γ (1 * 2 ^ x % 65536) < 65536 = rw (bind-with Γ x p) (with-lt Γ x temporaries p h) in
-    record { sfits = omega arith }
-
 -- words with others put over a frame's at a place
 module _ (ws : List ℤ) (at : ℕ) (l : at + frame_words ≤ length ws) where
   -- the words d are ws, with the words W of a frame's length over those of the place

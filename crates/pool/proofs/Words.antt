@@ -8,8 +8,8 @@ use lib.IntN.{ℤ, pos}
 use lib.ListN.{length, get_or, take, drop, length-drop, take-append-drop}
 use lib.Seq.{get_or-take, get_or-drop, drop-drop, take-append-le, drop-append-le}
 use mir.Syntax.{w32}
-use mir.Val.{SFits, to_z, of_z}
-use mir.Facts.{to_z_pos, to_z-of_z}
+use mir.Val.{to_z, of_z}
+use mir.Facts.{to_z_pos}
 use Rattle.model.specs.Lists.{Each, pad}
 use Rattle.model.specs.Pool.{Frame, temporaries, most_calls, function_at, block_at, done_at, bound_at, opened_at}
 use Rattle.model.specs.Pool.{promoted_at, calls_at, values_at, frame_words, words_of_frame, frame_of}
@@ -105,7 +105,3 @@ frame-said ws at k s e =
       promoted = p₅ i;
       values = p₇ i;
     }
-
--- the bits of a word that the code has at hand
-pub bits_of : (x : ℤ) (r : ℕ) → SFits w32 x → r ≡ of_z w32 (to_z w32 (of_z w32 x)) → r ≡ of_z w32 x
-bits_of x r f e = e ∙ ap (of_z w32) (to_z-of_z f)

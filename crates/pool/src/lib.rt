@@ -13,7 +13,7 @@ ghost use Rattle.pool.specs.InPlace.{frame_at, newest_at, Named, Jumped, Advance
 ghost use Rattle.pool.specs.Frame.{model_of};
 
 // The pool's own record: its limits, where each word stands, and the empty frame.
-#[derive(Clone, Copy)]
+#[derive(Clone, Copy, PartialEq, Eq, Debug)]
 pub struct Pool;
 
 impl Pool {
@@ -97,8 +97,12 @@ impl Pool {
     }
 }
 
-// A frame by value, as the empty one is. The first `opened` of `calls` are the open spawn calls, oldest first.
-#[derive(Clone, Copy)]
+// A pool's words.
+pub type Words = [i32; Pool::WORDS];
+
+// A frame by value, as the empty one is. The first `opened` of `calls` are the open spawn calls, oldest first: an array and its count,
+// since nothing is on the heap.
+#[derive(Clone, Copy, PartialEq, Eq, Debug)]
 pub struct Frame {
     pub function: u8,
     pub block: u8,
@@ -166,12 +170,7 @@ pub fn opened(ws: &[i32], at: usize) -> u8
     requires { at + frame_words ≤ length ws.now }
     ensures { result ≡ length (frame_at ws.now at).calls }
 {
-    let n = byte_at(ws, at + Pool::OPENED_AT);
-    if (n as usize) < Pool::CALLS {
-        n
-    } else {
-        Pool::CALLS as u8
-    }
+    byte_at(ws, at + Pool::OPENED_AT).min(Pool::CALLS as u8)
 }
 
 pub fn promoted(ws: &[i32], at: usize) -> u8
@@ -260,22 +259,15 @@ pub fn promote_call(ws: &mut [i32], at: usize)
     ws[at + Pool::PROMOTED_AT] = (n + 1) as i32;
 }
 
-fn at_most(n: u32, most: u32) -> u32
-    ensures { result ≡ min n most }
-{
-    if n < most { n } else { most }
-}
-
 // How many threads there are, and how many frames a thread has. Words that hold no pool count as some number of 1 to 8.
-pub fn thread_count(ws: &[i32]) -> usize
-    requires { length ws.now ≡ pool_words }
+pub fn thread_count(ws: &Words) -> usize
     ensures { result ≡ threads_in ws.now }
 {
     (bits_at(ws, Pool::THREAD_COUNT_AT) as usize + (Pool::THREADS - 1)) % Pool::THREADS + 1
 }
 
-pub fn frame_count(ws: &[i32], thread: usize) -> usize
-    requires { (length ws.now ≡ pool_words) × (thread < most_threads) }
+pub fn frame_count(ws: &Words, thread: usize) -> usize
+    requires { thread < most_threads }
     ensures { result ≡ frames_in ws.now thread }
 {
     let at = Pool::thread_start(thread) + Pool::FRAME_COUNT_AT;
@@ -283,8 +275,8 @@ pub fn frame_count(ws: &[i32], thread: usize) -> usize
 }
 
 // Where a thread's newest frame begins.
-pub fn newest_start(ws: &[i32], thread: usize) -> usize
-    requires { (length ws.now ≡ pool_words) × (thread < most_threads) }
+pub fn newest_start(ws: &Words, thread: usize) -> usize
+    requires { thread < most_threads }
     ensures is { result ≡ newest_at ws.now thread }
     ensures within { result + frame_words ≤ pool_words }
 {
@@ -300,8 +292,8 @@ fn set_count(ws: &mut [i32], at: usize, n: usize)
 }
 
 // The empty frame stands above the newest: its words are 0, as those above the newest are.
-pub fn push_frame(ws: &mut [i32], thread: usize)
-    requires { (length ws.old ≡ pool_words) × (thread < most_threads) × (frames_in ws.old thread < most_frames) }
+pub fn push_frame(ws: &mut Words, thread: usize)
+    requires { (thread < most_threads) × (frames_in ws.old thread < most_frames) }
     ensures { Pushed ws.old thread (begin 0 []) ws.new }
 {
     let n = frame_count(ws, thread);
@@ -310,9 +302,8 @@ pub fn push_frame(ws: &mut [i32], thread: usize)
 }
 
 // The newest frame, which begins at k, goes.
-pub fn pop_frame(ws: &mut [i32], thread: usize, k: usize)
-    requires { (length ws.old ≡ pool_words) × (thread < most_threads) × (1 < frames_in ws.old thread)
-        × (k ≡ newest_at ws.old thread) }
+pub fn pop_frame(ws: &mut Words, thread: usize, k: usize)
+    requires { (thread < most_threads) × (1 < frames_in ws.old thread) × (k ≡ newest_at ws.old thread) }
     ensures { Popped ws.old thread ws.new }
 {
     let n = frame_count(ws, thread);
@@ -323,8 +314,8 @@ pub fn pop_frame(ws: &mut [i32], thread: usize, k: usize)
 
 // A new thread with one frame, the empty one, comes directly behind a thread: those behind it move up. Its words are 0 but for its
 // count.
-pub fn add_thread(ws: &mut [i32], thread: usize)
-    requires { (length ws.old ≡ pool_words) × (thread < threads_in ws.old) × (threads_in ws.old < most_threads) }
+pub fn add_thread(ws: &mut Words, thread: usize)
+    requires { (thread < threads_in ws.old) × (threads_in ws.old < most_threads) }
     ensures { Added ws.old thread (begin 0 []) ws.new }
 {
     let n = thread_count(ws);
@@ -337,8 +328,8 @@ pub fn add_thread(ws: &mut [i32], thread: usize)
 }
 
 // The thread directly behind a thread goes: those behind it move down, and the last one's words are cleared.
-pub fn remove_thread(ws: &mut [i32], thread: usize)
-    requires { (length ws.old ≡ pool_words) × (thread + 1 < threads_in ws.old) }
+pub fn remove_thread(ws: &mut Words, thread: usize)
+    requires { thread + 1 < threads_in ws.old }
     ensures { Removed ws.old thread ws.new }
 {
     let n = thread_count(ws);
@@ -350,28 +341,23 @@ pub fn remove_thread(ws: &mut [i32], thread: usize)
 }
 
 // A thread's purse: its work and its tokens. What is above the most that a thread can have counts as the most.
-pub fn work(ws: &[i32], thread: usize) -> u32
-    requires { (length ws.now ≡ pool_words) × (thread < most_threads) }
+// The two differ in two constants: with the place and the limit as parameters they are no plainer.
+pub fn work(ws: &Words, thread: usize) -> u32
+    requires { thread < most_threads }
     ensures { result ≡ work_in ws.now thread }
 {
-    at_most(
-        bits_at(ws, Pool::thread_start(thread) + Pool::WORK_AT),
-        Pool::WORK as u32,
-    )
+    bits_at(ws, Pool::thread_start(thread) + Pool::WORK_AT).min(Pool::WORK as u32)
 }
 
-pub fn tokens(ws: &[i32], thread: usize) -> u32
-    requires { (length ws.now ≡ pool_words) × (thread < most_threads) }
+pub fn tokens(ws: &Words, thread: usize) -> u32
+    requires { thread < most_threads }
     ensures { result ≡ tokens_in ws.now thread }
 {
-    at_most(
-        bits_at(ws, Pool::thread_start(thread) + Pool::TOKENS_AT),
-        Pool::TOKENS as u32,
-    )
+    bits_at(ws, Pool::thread_start(thread) + Pool::TOKENS_AT).min(Pool::TOKENS as u32)
 }
 
-pub fn set_purse(ws: &mut [i32], thread: usize, work: u32, tokens: u32)
-    requires { (length ws.old ≡ pool_words) × (thread < most_threads) × (work ≤ most_work) × (tokens ≤ most_tokens) }
+pub fn set_purse(ws: &mut Words, thread: usize, work: u32, tokens: u32)
+    requires { (thread < most_threads) × (work ≤ most_work) × (tokens ≤ most_tokens) }
     ensures { Endowed ws.old thread (record { work = work; tokens = tokens }) ws.new }
 {
     let at = Pool::thread_start(thread);
@@ -380,8 +366,7 @@ pub fn set_purse(ws: &mut [i32], thread: usize, work: u32, tokens: u32)
 }
 
 // The pool at the start: one thread, with one frame at main's entry.
-pub fn start_pool(ws: &mut [i32])
-    requires { length ws.old ≡ pool_words }
+pub fn start_pool(ws: &mut Words)
     ensures { ws.new ≡ words_of started }
 {
     words::clear(ws, 0, Pool::WORDS);

@@ -1,14 +1,15 @@
 -- What a frame returns: nothing, unless its code is at a return with nothing open and its temporaries bound.
-use Prim.Native.Nat.{ℕ, zero, suc, ◌≤◌, ◌<◌}
+use Prim.Native.Nat.{ℕ, zero, suc, ◌≤◌, ◌<◌, min}
 use mathlib.Core.Path.{◌≡◌, refl, sym, ap, ◌∙◌}
 use mathlib.Core.Bool.{Bool, true, false, not, cond}
 use mathlib.Core.Option.{Option, none, some}
+use Rattle.std.specs.Prelude.{Option as Optional, Some, None}
 use mathlib.Core.List.{List, []}
 use native.Mathlib.Omega.{arith}
 use lib.Dec.{ltb}
 use lib.IntN.{ℤ, pos}
 use lib.ListN.{length, get_elem?, take}
-use Rattle.model.specs.Numbers as No
+use Rattle.model.specs.Numbers as Numbers
 use Rattle.model.specs.Lists.{Snoc, unsnoc, equal}
 use Rattle.model.specs.Values.{Worked, same}
 use Rattle.model.specs.Syntax.{Expression, Statement, Transfer, Head, Block, Program}
@@ -18,19 +19,20 @@ use Rattle.model.specs.Frames.{when, look_all, eval, go_to, callee}
 use Rattle.model.specs.Rules as Rules
 use Rattle.model.specs.Rules.{by, acts, carry, assign, stmt, goto, branch, if, call, return, spork, closing, spoin, transfer}
 use Rattle.model.specs.Rules.{coming, act, returned}
-use Rattle.places.specs.declared.Place.{Place}
-use Rattle.places.specs.declared.Place.TheVariants.{At, Nowhere}
-use Rattle.places.specs.Places.{FindsCode}
+use Rattle.places.specs.Places.{Place, FindsCode}
 use Rattle.code.specs.Bytes.{byte_at, past}
 use Rattle.code.specs.Code.{count_at, arguments_at, statements_end, transfer_of, transfer_at, code_at, code_end, coded}
+use Rattle.code.specs.declared.Kind.{Kind}
+use Rattle.code.specs.declared.Kind.TheVariants.{Return}
+use Rattle.code.specs.Kinds.{number_of}
+use Rattle.code.proofs.KindLaws.{by-kind, kind-other}
+use Rattle.code.proofs.Targets.{is-of}
 use Rattle.eval.specs.Given.{Looks}
 use Rattle.eval.proofs.Lists.{count-bound}
 use Rattle.eval.proofs.Buffers.{filled_none}
-use Rattle.rules.specs.declared.Ended.{Ended}
-use Rattle.rules.specs.declared.Ended.TheVariants.{Gives, Runs}
 use Rattle.rules.specs.Acts.{transfer_by, next_in, next_of, returns_of, Ending, Giving}
 use Rattle.rules.proofs.Heads.{looked-none, looked-some}
-use Rattle.rules.proofs.Steps.{no-calls, some-calls, kind-is, next-is, next-transfer, comes-transfer, block_none, block-some}
+use Rattle.rules.proofs.Steps.{no-calls, some-calls, next-is, next-transfer, comes-transfer, block_none, block-some}
 
 -- a rule that goes on returns nothing
 by_runs : (rule : ℕ) (o : Option Frame) → returned [] (by rule o) ≡ none
@@ -52,8 +54,8 @@ stmt-runs m t = carried-runs (eval m t.source) (assign m t.target) (λ v. refl)
 
 branch-runs : (P : Program) (m : Frame) (b c : ℕ) (t : Bool) → returned [] (branch P m b c t) ≡ none
 unfolding branch
-branch-runs P m b c true = by_runs No.else _
-branch-runs P m b c false = by_runs No.then _
+branch-runs P m b c true = by_runs Numbers.else _
+branch-runs P m b c false = by_runs Numbers.then _
 
 if-runs : (P : Program) (m : Frame) (e : Expression) (b c : ℕ) → returned [] (if P m e b c) ≡ none
 unfolding if
@@ -80,7 +82,7 @@ call-runs P m g x̄ b = looked (look_all m x̄)
 
 closing-runs : (P : Program) (m : Frame) (b c : ℕ) (ρ : List ℕ) (t : Bool) → returned [] (closing P m b c ρ t) ≡ none
 unfolding closing returned
-closing-runs P m b c ρ true = by_runs No.unpr _
+closing-runs P m b c ρ true = by_runs Numbers.unpr _
 closing-runs P m b c ρ false = refl
 
 spoin-runs : (P : Program) (m : Frame) (b c : ℕ) → returned [] (spoin P m b c) ≡ none
@@ -96,11 +98,11 @@ spoin-runs P m b c = go (unsnoc m.calls)
 transfer-runs : (P : Program) (m : Frame) (s : List ℕ) (f kind : ℕ) → (kind ≡ 3 → ⊥)
     → returned [] (transfer P m (transfer_of kind s f)) ≡ none
 unfolding transfer transfer_of goto spork
-transfer-runs P m s f zero z = by_runs No.goto _
+transfer-runs P m s f zero z = by_runs Numbers.goto _
 transfer-runs P m s f (suc zero) z = if-runs P m _ _ _
 transfer-runs P m s f (suc (suc zero)) z = call-runs P m _ _ _
 transfer-runs P m s f (suc (suc (suc zero))) z = absurd (z refl)
-transfer-runs P m s f (suc (suc (suc (suc zero)))) z = by_runs No.spork _
+transfer-runs P m s f (suc (suc (suc (suc zero)))) z = by_runs Numbers.spork _
 transfer-runs P m s f (suc (suc (suc (suc (suc kind))))) z = spoin-runs P m _ _
 
 no-returns : (m : Frame) (s : List ℕ) (f kind : ℕ) → (kind ≡ 3 → ⊥) → returns_of m (some (transfer_of kind s f)) ≡ []
@@ -132,7 +134,7 @@ module _ (m : Frame) (x̄ : List ℕ) where
 
 -- by the code of a block, each with the shape of one of the code's answers
 module _ (s : List ℕ) (m : Frame) (at : ℕ) {n done : ℕ} (e₁ : n ≡ byte_at s at) (e₂ : done ≡ m.done) where
-  pub ending-stmt : (out : List ℤ) → done < n → Ending s m at out Runs out
+  pub ending-stmt : (out : List ℤ) → done < n → Ending s m at out None out
   unfolding coming next_in returns_of
   ending-stmt out l =
       record {
@@ -141,7 +143,7 @@ module _ (s : List ℕ) (m : Frame) (at : ℕ) {n done : ℕ} (e₁ : n ≡ byte
         left = λ H. let a = next-is s at m.done (omega arith) in rw a (filled_none m out);
       }
 
-  module _ (l : n ≤ done) {f i kind : ℕ} (e₃ : f ≡ past at 1) (e₄ : i ≡ statements_end s f n) (e₅ : kind ≡ byte_at s i) where
+  module _ (l : n ≤ done) {f i : ℕ} (e₃ : f ≡ past at 1) (e₄ : i ≡ statements_end s f n) where
     here : i ≡ code_end s at
     unfolding code_end
     here = rw (← e₁, ← e₃) e₄
@@ -153,81 +155,82 @@ module _ (s : List ℕ) (m : Frame) (at : ℕ) {n done : ℕ} (e₁ : n ≡ byte
     returns-at : (H : Head) (T : Transfer) → transfer_at s i ≡ T → returns_of m (next_in m (coded H s at)) ≡ returns_of m (some T)
     returns-at H T q = ap (returns_of m) (next-transfer s at m H (omega arith) i here ∙ ap some q)
 
-    pub ending-other : (out : List ℤ) → (kind ≡ 3 → ⊥) → Ending s m at out Runs out
-    ending-other out z =
-        let q = kind-is s i e₅ refl kind refl in
-        record {
-          few = tt;
-          is = λ P H. sym (at-transfer P H _ q ∙ transfer-runs P m s _ kind z);
-          left = λ H. rw (returns-at H _ q, no-returns m s _ kind z) (filled_none m out);
-        }
-
-    module _ (z : kind ≡ 3) {c : ℕ} (e₆ : c ≡ length m.calls) where
-      at_return : (j : ℕ) → j ≡ past i 1 → transfer_at s i ≡ Transfer.return (arguments_at s j)
-      unfolding transfer_of
-      at_return j e = kind-is s i e₅ e 3 z
-
-      pub ending-open : (out : List ℤ) → (c ≡ 0 → ⊥) → Ending s m at out Runs out
-      unfolding transfer returns_of
-      ending-open out o =
-          let q = at_return (past i 1) refl in
-          let k = some-calls m.calls (λ y. o (e₆ ∙ y)) in
+    module _ {kind : Kind} (e₅ : number_of kind ≡ min (byte_at s i) 5) where
+      pub ending-other : (out : List ℤ) → (kind ≡ Return → ⊥) → Ending s m at out None out
+      ending-other out z =
+          let q = is-of s i refl refl in
+          let k : byte_at s i ≡ 3 → ⊥ = kind-other {j = Return} e₅ z (omega arith) in
           record {
             few = tt;
-            is = λ P H. sym (at-transfer P H _ q ∙ return-runs m _ k);
-            left = λ H. rw (returns-at H _ q, k) (filled_none m out);
+            is = λ P H. sym (at-transfer P H _ q ∙ transfer-runs P m s _ _ k);
+            left = λ H. rw (returns-at H _ q, no-returns m s _ _ k) (filled_none m out);
           }
 
-      module _ (o : c ≡ 0) (out₀ out : List ℤ) (ok : Bool) {j : ℕ} (e₇ : j ≡ past i 1) (e₈ : Looks m s j out₀ ok out) where
-        pub ending-unbound : not ok ≡ true → Ending s m at out₀ Runs out
+      module _ (z : kind ≡ Return) {c : ℕ} (e₆ : c ≡ length m.calls) where
+        at_return : (j : ℕ) → j ≡ past i 1 → transfer_at s i ≡ Transfer.return (arguments_at s j)
+        unfolding transfer_of
+        at_return j e = by-kind s i e₅ e z
+
+        pub ending-open : (out : List ℤ) → (c ≡ 0 → ⊥) → Ending s m at out None out
         unfolding transfer returns_of
-        ending-unbound t =
-            let q = at_return j e₇ in
+        ending-open out o =
+            let q = at_return (past i 1) refl in
+            let k = some-calls m.calls (λ y. o (e₆ ∙ y)) in
             record {
               few = tt;
-              is = λ P H. sym (at-transfer P H _ q ∙ return-none m _ (looked-none s j ok out _ e₈.is t));
-              left = λ H. rw (returns-at H _ q, no-calls m.calls (sym e₆ ∙ o)) e₈.left;
+              is = λ P H. sym (at-transfer P H _ q ∙ return-runs m _ k);
+              left = λ H. rw (returns-at H _ q, k) (filled_none m out);
             }
 
-        pub ending-gives : {y : ℕ} → not ok ≡ false → y ≡ count_at s j → Ending s m at out₀ (Gives y) out
-        unfolding transfer returns_of
-        ending-gives {y} t e =
-            let q = at_return j e₇ in
-            let k = no-calls m.calls (sym e₆ ∙ o) in
-            record {
-              few = count-bound s j e;
-              is = λ P H.
-                  ap (λ (a : ℕ). some (take a out)) e
-                  ∙ sym (at-transfer P H _ q ∙ return-gives m _ _ k (looked-some s j ok out _ e₈.is t));
-              left = λ H. rw (returns-at H _ q, k) e₈.left;
-            }
+        module _ (o : c ≡ 0) (out₀ out : List ℤ) (ok : Bool) {j : ℕ} (e₇ : j ≡ past i 1) (e₈ : Looks m s j out₀ ok out) where
+          pub ending-unbound : not ok ≡ true → Ending s m at out₀ None out
+          unfolding transfer returns_of
+          ending-unbound t =
+              let q = at_return j e₇ in
+              record {
+                few = tt;
+                is = λ P H. sym (at-transfer P H _ q ∙ return-none m _ (looked-none s j ok out _ e₈.is t));
+                left = λ H. rw (returns-at H _ q, no-calls m.calls (sym e₆ ∙ o)) e₈.left;
+              }
+
+          pub ending-gives : {y : ℕ} → not ok ≡ false → y ≡ count_at s j → Ending s m at out₀ (Some y) out
+          unfolding transfer returns_of
+          ending-gives {y} t e =
+              let q = at_return j e₇ in
+              let k = no-calls m.calls (sym e₆ ∙ o) in
+              record {
+                few = count-bound s j e;
+                is = λ P H.
+                    ap (λ (a : ℕ). some (take a out)) e
+                    ∙ sym (at-transfer P H _ q ∙ return-gives m _ _ k (looked-some s j ok out _ e₈.is t));
+                left = λ H. rw (returns-at H _ q, k) e₈.left;
+              }
 
 -- by the frame's block
-module _ (s places : List ℕ) (m : Frame) (place : Place) {f b : ℕ} (h : f ≡ m.function) (g : b ≡ m.block)
-    (d : FindsCode places f b place) where
-  pub giving-nowhere : (out : List ℤ) → place ≡ Nowhere → Giving s places m out Runs out
+module _ (s places : List ℕ) (m : Frame) (place : Place) (d : FindsCode places m.function m.block place) where
+  pub giving-nowhere : (out : List ℤ) → place ≡ None → Giving s places m out None out
   unfolding act acts returned next_of returns_of
   giving-nowhere out w =
       record {
         few = tt;
-        is = λ P p. sym (rw (block_none s places m place h g d P p w));
-        left = λ P p. rw (block_none s places m place h g d P p w) (filled_none m out);
+        is = λ P p. sym (rw (block_none s places m place d P p w));
+        left = λ P p. rw (block_none s places m place d P p w) (filled_none m out);
       }
 
-  pub giving-at : (out₀ out : List ℤ) (at : ℕ) (r : Ended) → place ≡ At at → Ending s m at out₀ r out → Giving s places m out₀ r out
+  pub giving-at : (out₀ out : List ℤ) (at : ℕ) (r : Optional ℕ) → place ≡ Some at → Ending s m at out₀ r out → Giving s places m out₀ r out
   unfolding act acts next_of
   giving-at out₀ out at r w k =
       record {
         few = k.few;
-        is = λ P p. let (H, q, u) = block-some s places m place h g d P p at w in rw q (k.is P H);
-        left = λ P p. let (H, q, u) = block-some s places m place h g d P p at w in rw q (k.left H);
+        is = λ P p. let (H, q, u) = block-some s places m place d P p at w in rw q (k.is P H);
+        left = λ P p. let (H, q, u) = block-some s places m place d P p at w in rw q (k.left H);
       }
 
 -- what is given are the values of the temporaries returned
 module _ (P : Program) (m : Frame) (v̄ : List ℤ) where
   transfer-gives : (T : Transfer) → returned [] (transfer P m T) ≡ some v̄ → look_all m (returns_of m (some T)) ≡ some v̄
   unfolding transfer goto spork returns_of return acts returned when
-  transfer-gives (Transfer.goto b x̄) e = cc (by_runs No.goto _)
+  transfer-gives (Transfer.goto b x̄) e = cc (by_runs Numbers.goto _)
   transfer-gives (Transfer.if c b d) e = cc (if-runs P m c b d)
   transfer-gives (Transfer.call g x̄ b) e = cc (call-runs P m g x̄ b)
   transfer-gives (Transfer.return x̄) e = go (equal m.calls []) (look_all m x̄) refl e
@@ -238,7 +241,7 @@ module _ (P : Program) (m : Frame) (v̄ : List ℤ) where
       go true (some w̄) h q = h ∙ q
       go false none h q = cc
       go false (some w̄) h q = cc
-  transfer-gives (Transfer.spork b π) e = cc (by_runs No.spork _)
+  transfer-gives (Transfer.spork b π) e = cc (by_runs Numbers.spork _)
   transfer-gives (Transfer.spoin b c) e = cc (spoin-runs P m b c)
 
   pub act-gives : returned [] (act P m) ≡ some v̄ → look_all m (returns_of m (next_of P m)) ≡ some v̄

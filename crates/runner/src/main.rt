@@ -3,7 +3,7 @@
 
 use flow::{Bytes, Run};
 use places::Places;
-use pool::Pool;
+use pool::{Pool, Words};
 use std::env::{Env, FillError};
 use std::io::{Read, Stdin};
 
@@ -15,72 +15,66 @@ const STDERR_FILENO: i32 = 2;
 // Where the verdict goes, if it is asked for.
 const VERDICT_FILENO: i32 = 3;
 
-// How a run ends: with a verdict, or where a read or a write failed.
-#[derive(Clone, Copy)]
-pub enum Outcome {
-    Told(bool),
-    Failed,
+// Why a run has no verdict: a read or a write failed.
+#[derive(Clone, Copy, PartialEq, Eq, Debug)]
+pub enum Failure {
+    Input,
+    Output,
 }
 
-// Text is written, and a failure said.
-fn print(out: &[u8], n: usize) -> bool {
-    let ok = io::write_all(STDOUT_FILENO, flow::front(out, n));
-    if !ok {
-        io::write_all(
-            STDERR_FILENO,
-            b"mezdaulk: standard output cannot be written\n",
-        );
+impl Failure {
+    // What is said of it.
+    fn message(self) -> &'static [u8] {
+        match self {
+            Failure::Input => b"mezdaulk: standard input cannot be read\n",
+            Failure::Output => b"mezdaulk: standard output cannot be written\n",
+        }
     }
-    ok
+}
+
+// Text is written.
+fn print(out: &[u8], n: usize) -> Result<(), Failure> {
+    if io::write_all(STDOUT_FILENO, flow::front(out, n)) {
+        Ok(())
+    } else {
+        Err(Failure::Output)
+    }
 }
 
 // The end of the input: the last text, and the verdict.
 fn finish(
     table: &[u8; Bytes::TABLE],
     places: &Places,
-    ws: &[i32; Pool::WORDS],
+    ws: &Words,
     out: &mut [u8; Bytes::TEXT],
     run: Run,
-) -> Outcome {
+) -> Result<bool, Failure> {
     let n = flow::end(table, places, ws, out, run);
-    if print(out, n) {
-        Outcome::Told(flow::fine(run))
-    } else {
-        Outcome::Failed
-    }
+    print(out, n)?;
+    Ok(flow::fine(run))
 }
 
 // The input, piece by piece, until the run is closed to it: each piece is fed as soon as it has come, and its text written. A loop has
-// to end, and nothing says that the input does: the pieces are counted down from a number that no run uses up.
+// to end, and nothing says that the input does: the pieces are counted up to a number that no run uses up.
 fn serve(
     input: &mut Stdin,
     table: &mut [u8; Bytes::TABLE],
     places: &mut Places,
-    ws: &mut [i32; Pool::WORDS],
+    ws: &mut Words,
     out: &mut [u8; Bytes::TEXT],
     piece: &mut [u8; Bytes::PIECE],
-) -> Outcome {
+) -> Result<bool, Failure> {
     let mut run = flow::begin();
-    let mut left = u64::MAX;
-    while 0 < left {
+    for _ in 0..u64::MAX {
         if flow::closed(run) {
             break;
         }
-        let n = match input.read(piece) {
-            Ok(n) => n,
-            Err(_) => {
-                io::write_all(STDERR_FILENO, b"mezdaulk: standard input cannot be read\n");
-                return Outcome::Failed;
-            }
-        };
+        let n = input.read(piece).map_err(|_| Failure::Input)?;
         if n == 0 {
             break;
         }
         run = flow::feed(table, places, ws, out, run, flow::front(piece, n));
-        if !print(out, run.said) {
-            return Outcome::Failed;
-        }
-        left -= 1;
+        print(out, run.said)?;
     }
     finish(table, places, ws, out, run)
 }
@@ -89,27 +83,23 @@ fn serve(
 fn is_asked(rt: &HostRuntime) -> bool {
     let mut word = [0u8; 1];
     match rt.arg(1, &mut word) {
-        Ok(_) => true,
-        Err(FillError::TooLong) => true,
+        Ok(_) | Err(FillError::TooLong) => true,
         Err(FillError::NotPresent) => false,
     }
 }
 
 // The verdict in a line, if the program was started with an argument: 0 where the table was accepted and every choice made, 1 where one
-// was refused, nothing where that cannot be told.
-fn conclude(rt: &HostRuntime, how: Outcome) {
-    if !is_asked(rt) {
-        return;
-    }
+// was refused. A failure is said, and there is no verdict then.
+fn conclude(rt: &HostRuntime, how: Result<bool, Failure>) {
     match how {
-        Outcome::Told(fine) => {
-            if fine {
-                io::write_all(VERDICT_FILENO, b"0\n");
-            } else {
-                io::write_all(VERDICT_FILENO, b"1\n");
+        Ok(fine) => {
+            if is_asked(rt) {
+                io::write_all(VERDICT_FILENO, if fine { b"0\n" } else { b"1\n" });
             }
         }
-        Outcome::Failed => {}
+        Err(why) => {
+            io::write_all(STDERR_FILENO, why.message());
+        }
     }
 }
 

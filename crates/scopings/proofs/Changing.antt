@@ -14,27 +14,6 @@ use Rattle.inference.specs.Infer.{Mark}
 use Rattle.scopings.specs.Words.{len, blocks, digits, mark_of, scope_in, mark_in, Held}
 use Rattle.scopings.specs.Changes.{level_in, names_in, Cleared, marked, scoped, Whole}
 
--- the words below i are 0
-abbrev pub Clear : List ℕ → ℕ → Type 0
-Clear words i = (k : ℕ) → k < i → get_or words k 0 ≡ 0
-
-pub clear_none : (words : List ℕ) → Clear words 0
-clear_none words k h = absurd (omega arith)
-
-pub clear_next : (words : List ℕ) (i : ℕ) → i < length words → Clear words i → Clear (set words i 0) (i + 1)
-clear_next words i l h k j = go (ℕ_discrete k i)
-  where
-    go : Dec (k ≡ i) → get_or (set words i 0) k 0 ≡ 0
-    go (yes e) = rw e (get_or-set_same words i 0 0 l)
-    go (no n) = get_or-set_other words i k 0 0 n ∙ h k (omega arith)
-
-pub clear-all : (words₀ words : List ℕ) (i : ℕ) → length words ≡ length words₀ → length words ≤ i → Clear words i → Cleared words₀ words
-clear-all words₀ words i e l h = record { long = e; zero = λ k. go k (ltb k i) refl }
-  where
-    go : (k : ℕ) (b : Bool) → ltb k i ≡ b → get_or words k 0 ≡ 0
-    go k true q = h k (ltb-true k i q)
-    go k false q = get_or-eq_default words 0 {n = k} (omega (arith, ltb-false k i q))
-
 -- a block's mark, by its two numbers
 pub mark-is : (words : List ℕ) (b : ℕ) → mark_in words b ≡ mark_of (level_in words b) (names_in words b)
 unfolding mark_in level_in names_in

@@ -2,32 +2,18 @@
 // is not there reads as 0 and is not written.
 #![tactic(auto)]
 
-ghost use Rattle.std.specs.Prelude.{◌≡◌, ◌+◌, ◌*◌, ◌%◌, get_or, set};
+ghost use Rattle.std.specs.Prelude.{◌≡◌, ◌+◌, ◌*◌, ◌%◌, get_or};
 ghost use Rattle.scopings.specs.Words.{scope_in};
 ghost use Rattle.scopings.specs.Changes.{Cleared, level_in, names_in, marked, scoped};
 
 // How many scopes there are: a scope is the low half of a word.
-#[derive(Clone, Copy)]
-struct Half {}
-
-impl Half {
-    const SCOPES: u32 = 65536;
-}
+const SCOPES: u32 = 65536;
 
 // Word i.
 fn word(words: &[u32], i: usize) -> u32
     ensures { result ≡ get_or words.now i 0 }
 {
-    if i < words.len() { words[i] } else { 0 }
-}
-
-// Word i becomes x.
-fn put(words: &mut [u32], i: usize, x: u32)
-    ensures { words.new ≡ set words.old i x }
-{
-    if i < words.len() {
-        words[i] = x;
-    }
+    words.get(i).copied().unwrap_or(0)
 }
 
 // The first word of block b.
@@ -41,14 +27,14 @@ fn first(b: u8) -> usize
 pub fn scope(words: &[u32], b: u8) -> u16
     ensures { result ≡ scope_in words.now b }
 {
-    (word(words, first(b)) % Half::SCOPES) as u16
+    (word(words, first(b)) % SCOPES) as u16
 }
 
 // 0 where block b is not reached, and otherwise one more than the number of its nesting's names.
 pub fn level(words: &[u32], b: u8) -> u16
     ensures { result ≡ level_in words.now b }
 {
-    (word(words, first(b)) / Half::SCOPES) as u16
+    (word(words, first(b)) / SCOPES) as u16
 }
 
 // The same as a byte.
@@ -70,9 +56,9 @@ pub fn mark(words: &mut [u32], b: u8, level: u16, names: u32)
     ensures { words.new ≡ marked words.old b level names }
 {
     let at = first(b);
-    let kept = word(words, at) % Half::SCOPES;
-    put(words, at, kept + Half::SCOPES * (level as u32));
-    put(words, at + 1, names);
+    let kept = word(words, at) % SCOPES;
+    words::put(words, at, kept + SCOPES * (level as u32));
+    words::put(words, at + 1, names);
 }
 
 // Block b has this scope from now on.
@@ -80,17 +66,13 @@ pub fn set_scope(words: &mut [u32], b: u8, scope: u16)
     ensures { words.new ≡ scoped words.old b scope }
 {
     let at = first(b);
-    let kept = word(words, at) / Half::SCOPES;
-    put(words, at, scope as u32 + Half::SCOPES * kept);
+    let kept = word(words, at) / SCOPES;
+    words::put(words, at, scope as u32 + SCOPES * kept);
 }
 
 // Every word becomes 0: no block is reached, and every scope is empty.
 pub fn clear(words: &mut [u32])
     ensures { Cleared words.old words.new }
 {
-    let mut i = 0;
-    while i < words.len() {
-        words[i] = 0;
-        i += 1;
-    }
+    words.fill(0);
 }

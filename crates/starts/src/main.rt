@@ -13,15 +13,10 @@ const STDOUT_FILENO: i32 = 1;
 
 const STDERR_FILENO: i32 = 2;
 
-// How long the text can get: a line is four digits and its end at most.
-#[derive(Clone, Copy)]
-pub struct Text;
+// How long a line can get, four digits and its end, and the text.
+const LINE: usize = 5;
 
-impl Text {
-    pub const LINE: usize = 5;
-
-    pub const BYTES: usize = Pool::THREADS * Pool::FRAMES * Text::LINE;
-}
+const BYTES: usize = Pool::THREADS * Pool::FRAMES * LINE;
 
 // A thread's lines, oldest frame first, from a place on; the place behind them.
 fn thread_lines(out: &mut [u8], at: usize, thread: usize) -> usize
@@ -29,11 +24,9 @@ fn thread_lines(out: &mut [u8], at: usize, thread: usize) -> usize
     ensures { Puts out.old at (in_turn most_frames (λ j. line (start_of thread j))) result out.new }
 {
     let mut k = at;
-    let mut frame = 0;
-    while frame < Pool::FRAMES {
+    for frame in 0..Pool::FRAMES {
         k = text::decimal(out, k, Pool::frame_start(thread, frame) as u64);
         k = text::line(out, k);
-        frame += 1;
     }
     k
 }
@@ -43,10 +36,8 @@ fn lines(out: &mut [u8]) -> usize
     ensures { Puts out.old 0 printed result out.new }
 {
     let mut k = 0;
-    let mut thread = 0;
-    while thread < Pool::THREADS {
+    for thread in 0..Pool::THREADS {
         k = thread_lines(out, k, thread);
-        thread += 1;
     }
     k
 }
@@ -59,7 +50,7 @@ fn print(text: &[u8]) -> bool
 }
 
 fn main(_rt: HostRuntime) {
-    let mut out = [0u8; Text::BYTES];
+    let mut out = [0u8; BYTES];
     let n = lines(&mut out);
     if !print(&out[..n]) {
         io::write_all(

@@ -23,12 +23,11 @@ use Rattle.places.specs.Places.{Places}
 use Rattle.pool.specs.Held.{Held, ThreadAt}
 use Rattle.pool.specs.Edits.{threads_in}
 use Rattle.pool.proofs.Steps.{threads-counted}
-use Rattle.steps.specs.declared.Made.{Made}
-use Rattle.eval.specs.declared.Looked.{Looked}
+use Rattle.std.specs.Prelude.{Option}
+use Rattle.eval.specs.declared.Values.{Values}
 use Rattle.eval.specs.Given.{looked_as}
-use Rattle.steps.specs.declared.Made.TheVariants.{Rule, Refused}
 use Rattle.steps.specs.Decision.{before}
-use Rattle.steps.specs.Choice.{Known, Ends, Comes, Steps, Promotes, Chose, Chooses}
+use Rattle.steps.specs.Choice.{Known, Ends, Made, by_rule, refused, Comes, Steps, Promotes, Chose, Chooses}
 use Rattle.steps.proofs.Effects.{on-thread, on_none}
 
 -- a pool around its thread i
@@ -92,10 +91,10 @@ choice-none P p (suc zero) i k h = on_none (promote P (ltb (length p) most_threa
 choice-none P p (suc (suc kind)) i k h = absurd (omega arith)
 
 module _ {s places : List ℕ} {ws : List ℤ} {kind thread : ℕ} where
-  pub chooses-kind : 1 < kind → Chooses s places ws kind thread (Refused No.kind) ws
+  pub chooses-kind : 1 < kind → Chooses s places ws kind thread (refused No.kind) ws
   chooses-kind h P p q w v = comes-chose P p w v q.limits (rw (choice-kind P p kind thread h) (refl, refl))
 
-  pub chooses_none : {m : ℕ} → kind ≤ 1 → m ≡ threads_in ws → m ≤ thread → Chooses s places ws kind thread (Refused No.thread) ws
+  pub chooses_none : {m : ℕ} → kind ≤ 1 → m ≡ threads_in ws → m ≤ thread → Chooses s places ws kind thread (refused No.thread) ws
   chooses_none k c h P p q w v =
       comes-chose P p w v q.limits (rw (choice-none P p kind thread k (omega (arith, pool-counted P p w v))) (refl, refl))
 
@@ -132,7 +131,8 @@ pub record MadeBy (P : Program) (p : Pool) (kind thread rule : ℕ) (ws' : List 
   pub valid : is_pool P pool ≡ true
 
 module _ (P : Program) (p : Pool) (ws : List ℤ) (kind thread : ℕ) (ws' : List ℤ) where
-  pub chose-made : (rule : ℕ) → Limits P → is_pool P p ≡ true → Chose P p ws kind thread (Rule rule) ws' → MadeBy P p kind thread rule ws'
+  pub chose-made : (rule : ℕ) → Limits P → is_pool P p ≡ true → Chose P p ws kind thread (by_rule rule) ws'
+      → MadeBy P p kind thread rule ws'
   unfolding made
   chose-made rule l v h = go (choice P p kind thread) refl h.called
     where
@@ -150,7 +150,7 @@ module _ (P : Program) (p : Pool) (ws : List ℤ) (kind thread : ℕ) (ws' : Lis
           }
       go (Result.refused n) q e = refused-given (sym (ap (λ (c : Called ℕ). c.answer) e))
 
-  pub chose-refused : (n : ℕ) → Chose P p ws kind thread (Refused n) ws' → (choice P p kind thread ≡ Result.refused n) × (ws' ≡ ws)
+  pub chose-refused : (n : ℕ) → Chose P p ws kind thread (refused n) ws' → (choice P p kind thread ≡ Result.refused n) × (ws' ≡ ws)
   unfolding made
   chose-refused n h = go (choice P p kind thread) refl h.called
     where
@@ -171,7 +171,7 @@ main-first P [] t b h = refl
 main-first P (u ∷ a) t b h = absurd (omega arith)
 
 -- what the first thread gives are main's values
-pub main-looked : (s places : List ℕ) (ws : List ℤ) (o : Looked) (P : Program) (p : Pool) → Ends s places ws 0 o → Places s P places
+pub main-looked : (s places : List ℕ) (ws : List ℤ) (o : Option Values) (P : Program) (p : Pool) → Ends s places ws 0 o → Places s P places
     → ws ≡ words_of p → is_pool P p ≡ true → o ≡ looked_as (main_values P p)
 main-looked s places ws o P p f q w v =
     let x = around p 0 (some-thread P p v) in

@@ -14,8 +14,10 @@ use Rattle.pool.specs.Held.{FrameAt}
 use Rattle.pool.specs.InPlace.{frame_at, newest_at}
 use Rattle.pool.proofs.Pools.{small-thread}
 use Rattle.pool.proofs.InPlace.{frame-at, frame-held, newest-held}
-use Rattle.rules.specs.declared.Acted.{Acted}
-use Rattle.rules.specs.Acts.{next_of, arguments_of, Passes, Acts}
+use Rattle.std.specs.Prelude.{Result}
+use Rattle.answers.specs.declared.No.{No}
+use Rattle.rules.specs.declared.Action.{Action}
+use Rattle.rules.specs.Acts.{Is, next_of, arguments_of, Passes, Acts}
 use Rattle.steps.specs.Choice.{Known}
 use Rattle.steps.proofs.Writing.{next-thread}
 
@@ -38,9 +40,10 @@ module _ {s places : List ℕ} {ws : List ℤ} {i : ℕ} {P : Program} {a : Pool
   frame_is e x = ap (frame_at ws) e ∙ frame-at (frame-held h.thread x (small_at x))
 
   -- what the newest frame does
-  pub acts-as : (d : Acted) (out₀ out : List ℤ) {k : ℕ} → k ≡ newest_at ws i → Acts s places (frame_at ws k) out₀ d out
-      → Passes s t.newest (arguments_of (next_of P t.newest)) out₀ d out (act P t.newest)
-  acts-as d out₀ out e q = subst (λ (m : Frame). Passes s m (arguments_of (next_of P m)) out₀ d out (act P m)) (newest-is e) (q P h.table)
+  pub acts-as : (r : Result Action No) (out₀ out : List ℤ) {k : ℕ} → k ≡ newest_at ws i → Acts s places (frame_at ws k) out₀ r out
+      → Is s t.newest out r (act P t.newest)
+  acts-as r out₀ out e q =
+      (subst (λ (m : Frame). Passes s m (arguments_of (next_of P m)) out₀ r out (act P m)) (newest-is e) (q P h.table)).is
 
 -- the thread directly behind
 pub next_known : {s places : List ℕ} {ws : List ℤ} {i : ℕ} {P : Program} {a : Pool} {t u : Thread} {b : Pool}

@@ -1,6 +1,5 @@
 pub mod Effects
 pub mod Promotions
-pub mod Others
 pub mod Knowing
 pub mod Deciding
 pub mod Writing

@@ -6,34 +6,25 @@ use mathlib.Core.Option.{none, some}
 use mathlib.Core.List.{List}
 use native.Mathlib.Omega.{arith}
 use lib.IntN.{ℤ}
-use lib.ListN.{length, take}
-use lib.Seq.{take_all}
-use Rattle.model.specs.Answers.{Answer}
+use lib.ListN.{length}
 use Rattle.model.specs.Syntax.{Program}
-use Rattle.model.specs.Pool.{Pool, pool_words, words_of, is_pool}
+use Rattle.model.specs.Pool.{Pool, words_of, is_pool}
 use Rattle.model.specs.Rules.{Result, choice}
 use Rattle.model.specs.Calls.{Called, made, lowest, is_made, can_step, first}
-use Rattle.model.proofs.Facts.{true-false}
+use Rattle.model.proofs.Facts.{true-false, refused-given}
 use Rattle.places.specs.Places.{Places}
-use Rattle.words.specs.Runs.{pasted}
 use Rattle.pool.specs.Edits.{threads_in}
-use Rattle.pool.proofs.Parts.{paste_all}
-use Rattle.steps.specs.declared.Made.{Made}
-use Rattle.steps.specs.declared.Made.TheVariants.{Rule, Refused}
-use Rattle.steps.specs.declared.Stepper.{Stepper}
-use Rattle.steps.specs.declared.Stepper.TheVariants.{Thread, Nobody}
-use Rattle.steps.specs.Choice.{made_of, Tried, Tries, FindsStepper, after_step, FindsFirst, Chooses}
+use Rattle.std.specs.Prelude.{Some, None, Ok, Err, is_ok}
+use Rattle.steps.specs.Choice.{Made, made_of, Tried, Tries, after_step, FindsFirst, Chooses}
 use Rattle.steps.proofs.Choosing.{pool-counted}
 
--- an answer that gives, and a choice that is made
-is_given : Answer ℕ → Bool
-is_given (Answer.given n) = true
-is_given (Answer.refused r) = false
-
-made-given : (ws : List ℤ) (x : Result) → is_given (made ws x).answer ≡ is_made x
-unfolding made is_made is_given
-made-given ws (Result.made rule p) = refl
-made-given ws (Result.refused n) = refl
+-- what the answer to a choice says of it: it was made exactly where a rule is given; refused, it left the words
+given_made : (ws : List ℤ) (r : Made) (x : Result) → made_of r ≡ (made ws x).answer → is_ok r ≡ is_made x
+unfolding made is_made
+given_made ws (Ok rule) (Result.made k p) e = refl
+given_made ws (Ok rule) (Result.refused n) e = refused-given (sym e)
+given_made ws (Err n) (Result.made k p) e = refused-given e
+given_made ws (Err n) (Result.refused k) e = refl
 
 unmade : (ws : List ℤ) (x : Result) → is_made x ≡ false → (made ws x).after ≡ ws
 unfolding made is_made
@@ -41,22 +32,14 @@ unmade ws (Result.made rule p) e = true-false true refl e
 unmade ws (Result.refused n) e = refl
 
 -- a choice of a step, by its answer
-module _ {s places : List ℕ} {ws : List ℤ} {i : ℕ} {r : Made} {ws' : List ℤ} (f : Chooses s places ws 0 i r ws') where
-  tries : (b : Bool) → is_given (made_of r) ≡ b → Tries s places ws i b ws'
-  tries b e P p q w v =
-      let same = (f P p q w v).called in
-      record {
-        goes = sym e ∙ ap (λ (c : Called ℕ). is_given c.answer) same ∙ made-given ws (choice P p 0 i);
-        left = ap (λ (c : Called ℕ). c.after) same;
-      }
-
-  pub tries-goes : {n : ℕ} → r ≡ Rule n → Tries s places ws i true ws'
-  unfolding is_given
-  tries-goes e = tries true (ap (λ (z : Made). is_given (made_of z)) e)
-
-  pub tries-stops : {n : ℕ} → r ≡ Refused n → Tries s places ws i false ws'
-  unfolding is_given
-  tries-stops e = tries false (ap (λ (z : Made). is_given (made_of z)) e)
+pub tries : {s places : List ℕ} {ws : List ℤ} {i : ℕ} {r : Made} {ws' : List ℤ} {b : Bool} → Chooses s places ws 0 i r ws' → b ≡ is_ok r
+    → Tries s places ws i b ws'
+tries {ws = ws} {i = i} {r = r} f e P p q w v =
+    let same = (f P p q w v).called in
+    record {
+      goes = e ∙ given_made ws r (choice P p 0 i) (ap (λ (c : Called ℕ). c.answer) same);
+      left = ap (λ (c : Called ℕ). c.after) same;
+    }
 
 -- the lowest number that passes, of those from i on up to n
 module _ (t : ℕ → Bool) {n i : ℕ} where
@@ -74,16 +57,14 @@ module _ (t : ℕ → Bool) {n i : ℕ} where
 
 -- the threads below i do not step: the first that does is the first from i on; and the words are still those at the start
 pub record Idle (s places : List ℕ) (ws₀ ws : List ℤ) (i : ℕ) : Type 0 where
-  pub long : length ws ≡ pool_words
   pub same : (P : Program) (p : Pool) → Places s P places → ws₀ ≡ words_of p → is_pool P p ≡ true → ws ≡ ws₀
   pub rest : (P : Program) (p : Pool) → Places s P places → ws₀ ≡ words_of p → is_pool P p ≡ true
       → first P p ≡ lowest (can_step P p) (length p - i) i
 
-pub idle-none : (s places : List ℕ) (ws : List ℤ) → length ws ≡ pool_words → Idle s places ws ws 0
+pub idle-none : (s places : List ℕ) (ws : List ℤ) → Idle s places ws ws 0
 unfolding first
-idle-none s places ws l =
+idle-none s places ws =
     record {
-      long = l;
       same = λ P p q w v. refl;
       rest = λ P p q w v. let e : length p - 0 ≡ length p = omega arith in rw e;
     }
@@ -95,34 +76,23 @@ module _ {s places : List ℕ} {ws₀ ws : List ℤ} {i n : ℕ} (h : Idle s pla
   tried {ws'} {r} f P p q w v =
       let e = h.same P p q w v in subst (λ (u : List ℤ). Tried P p u i r ws') e (f P p q (e ∙ w) v)
 
-  pub idle-goes : i < n → (ws' : List ℤ) (r : Bool) → r ≡ true → Tries s places ws i r ws' → FindsFirst s places ws₀ (Thread i) ws'
+  pub idle-goes : i < n → (ws' : List ℤ) (r : Bool) → r ≡ true → Tries s places ws i r ws' → FindsFirst s places ws₀ (Some i) ws'
   idle-goes l ws' r e f P p q w v =
       let x = tried f P p q w v in
       let z = h.rest P p q w v ∙ lowest-here (can_step P p) (omega (arith, c, pool-counted P p w v)) (sym x.goes ∙ e) in
       record { found = sym z; left = x.left ∙ ap (after_step P p ws₀) (sym z) }
 
-  pub idle-more : i < n → {ws' : List ℤ} (r : Bool) → r ≡ false → length ws' ≡ pool_words → Tries s places ws i r ws'
+  pub idle-more : i < n → {ws' : List ℤ} (r : Bool) → r ≡ false → Tries s places ws i r ws'
       → Idle s places ws₀ ws' (i + 1)
-  idle-more l r e m f =
+  idle-more l r e f =
       record {
-        long = m;
         same = λ P p q w v. let x = tried f P p q w v in x.left ∙ unmade ws₀ (choice P p 0 i) (sym x.goes ∙ e);
         rest = λ P p q w v.
             let x = tried f P p q w v in
             h.rest P p q w v ∙ lowest-on (can_step P p) (omega (arith, c, pool-counted P p w v)) (sym x.goes ∙ e);
       }
 
-  pub idle-all : n ≤ i → FindsFirst s places ws₀ Nobody ws
+  pub idle-all : n ≤ i → FindsFirst s places ws₀ None ws
   idle-all l P p q w v =
       let z = h.rest P p q w v ∙ lowest-end (can_step P p) (omega (arith, c, pool-counted P p w v)) in
       record { found = sym z; left = h.same P p q w v ∙ ap (after_step P p ws₀) (sym z) }
-
--- what is found in a copy
-pub copy-finds : {s places : List ℕ} {ws c : List ℤ} (d : List ℤ) (r : Stepper) (c' : List ℤ) → length ws ≡ pool_words
-    → length d ≡ pool_words
-    → c ≡ pasted d 0 (take pool_words ws) → FindsFirst s places c r c' → FindsStepper s places ws r
-copy-finds {s} {places} {ws} {c} d r c' n l e f P p q w v =
-    (subst (λ (u : List ℤ). FindsFirst s places u r c') (e ∙ copied) f P p q w v).found
-  where
-    copied : pasted d 0 (take pool_words ws) ≡ ws
-    copied = ap (pasted d 0) (take_all pool_words ws (omega arith)) ∙ paste_all d ws (omega arith)

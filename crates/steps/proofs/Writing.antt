@@ -16,6 +16,7 @@ use Rattle.pool.proofs.Edits.{frame-replaced}
 use Rattle.pool.proofs.Stores.{small-empty}
 use Rattle.pool.proofs.InPlace.{frame-at, became-held, became-then, newest-start, frame-held, newest-held, newest-became}
 use Rattle.eval.specs.Given.{Binds, BindsAll, Begins}
+use Rattle.rules.specs.declared.Entry.{Entry}
 use Rattle.rules.specs.Acts.{closed}
 use Rattle.steps.specs.Writes.{Sets, Arrives, Opens, Closes, Shuts, Pushes, Pops, Unites, Spawned}
 
@@ -29,8 +30,9 @@ module _ {ws ws₁ ws₂ : List ℤ} {k : ℕ} (l : k + frame_words ≤ length w
   unfolding go_to bind
   was-set x v f g m h p q = both h (f m h q) (λ o. g.bound p (go_to m m.block (m.done + 1)) o)
 
-  pub was-arrived : (s : List ℕ) (c p : ℕ) (out : List ℤ) → Jumped ws k c 0 ws₁ → BindsAll s p ws₁ k out ws₂ → Arrives s ws k c p out ws₂
-  was-arrived s c p out f g m h e = both h (f m h) (λ o. g (go_to m c 0) o e)
+  pub was-arrived : (s : List ℕ) (e : Entry) (out : List ℤ) → Jumped ws k e.block 0 ws₁ → BindsAll s e.parameters ws₁ k out ws₂
+      → Arrives s ws k e out ws₂
+  was-arrived s e out f g m h l = both h (f m h) (λ o. g (go_to m e.block 0) o l)
 
   pub was-opened : {n : ℕ} (π c : ℕ) → n ≡ length (frame_at ws k).calls → Opened ws k n π ws₁ → Jumped ws₁ k c 0 ws₂ → Opens ws k π c ws₂
   was-opened {n} π c e f g m h few =
@@ -105,24 +107,24 @@ module _ {ws : List ℤ} {i : ℕ} where
   pub not-pushed : {m : ℕ} (g n c : ℕ) (out : List ℤ) → m ≡ frames_in ws i → most_frames ≤ m → Pushes ws i g n c out ws
   not-pushed g n c out e o a t b h s few = absurd (omega (arith, e, frames-counted h))
 
-  pub was-popped : {ws₁ ws₂ : List ℤ} {k j : ℕ} (s : List ℕ) (c p : ℕ) (out : List ℤ) → Popped ws i ws₁ → k ≡ newest_at ws i
-      → j ≡ k - frame_words → Arrives s ws₁ j c p out ws₂ → Pops s ws i c p out ws₂
-  was-popped s c p out f e q g a t l m K b h o r =
+  pub was-popped : {ws₁ ws₂ : List ℤ} {k j : ℕ} (s : List ℕ) (v : Entry) (out : List ℤ) → Popped ws i ws₁ → k ≡ newest_at ws i
+      → j ≡ k - frame_words → Arrives s ws₁ j v out ws₂ → Pops s ws i v out ws₂
+  was-popped s v out f e q g a t l m K b h o r =
       let x = f a t l m K b h in
       newest-changed x o (omega (arith, e, q, newest-start h, newest-start x)) (λ u. g m u r)
 
-  pub not_popped : {n : ℕ} (s : List ℕ) (c p : ℕ) (out : List ℤ) → n ≡ frames_in ws i → n ≤ 1 → Pops s ws i c p out ws
-  not_popped s c p out e o a t l m K b h u r = absurd (omega (arith, e, frames-counted h))
+  pub not_popped : {n : ℕ} (s : List ℕ) (v : Entry) (out : List ℤ) → n ≡ frames_in ws i → n ≤ 1 → Pops s ws i v out ws
+  not_popped s v out e o a t l m K b h u r = absurd (omega (arith, e, frames-counted h))
 
-  pub was-united : {ws₁ ws₂ ws₃ : List ℤ} {k : ℕ} (s : List ℕ) (c p : ℕ) (out : List ℤ) → Removed ws i ws₁ → k ≡ newest_at ws i
-      → k + frame_words ≤ length ws₁ → Closes ws₁ k 1 ws₂ → Arrives s ws₂ k c p out ws₃ → Unites s ws i c p out ws₃
-  was-united s c p out f e l g j a t u b h z n v r =
+  pub was-united : {ws₁ ws₂ ws₃ : List ℤ} {k : ℕ} (s : List ℕ) (v : Entry) (out : List ℤ) → Removed ws i ws₁ → k ≡ newest_at ws i
+      → k + frame_words ≤ length ws₁ → Closes ws₁ k 1 ws₂ → Arrives s ws₂ k v out ws₃ → Unites s ws i v out ws₃
+  was-united s v out f e l g j a t u b h z n q r =
       let x = f a t u b h in
       newest-changed x z (e ∙ newest-start h ∙ sym (newest-start x))
-      (λ o. both l o (g t.newest o n v) (λ y. j (closed t.newest (t.newest.promoted - 1)) y r))
+      (λ o. both l o (g t.newest o n q) (λ y. j (closed t.newest (t.newest.promoted - 1)) y r))
 
-  pub not-united : {m : ℕ} (s : List ℕ) (c p : ℕ) (out : List ℤ) → m ≡ threads_in ws → m ≤ i + 1 → Unites s ws i c p out ws
-  not-united s c p out e o a t u b h z n v r = absurd (omega (arith, e, threads-counted h, h.place))
+  pub not-united : {m : ℕ} (s : List ℕ) (v : Entry) (out : List ℤ) → m ≡ threads_in ws → m ≤ i + 1 → Unites s ws i v out ws
+  not-united s v out e o a t u b h z n q r = absurd (omega (arith, e, threads-counted h, h.place))
 
   pub was-spawned : {ws₁ ws₂ ws₃ : List ℤ} {k l : ℕ} (g n : ℕ) (out : List ℤ) → Added ws i (begin 0 []) ws₁ → l ≡ start_of (i + 1) 0
       → Begins ws₁ l g n out ws₂ → Promoted ws₂ k ws₃ → Spawned ws i k g n out ws₃

@@ -7,22 +7,23 @@ use Rattle.pool.specs.Frame.{Small}
 use Rattle.pool.specs.Held.{ThreadAt, FrameAt}
 use Rattle.pool.specs.InPlace.{FrameHeld, Became}
 use Rattle.code.specs.Code.{count_at, arguments_at}
+use Rattle.rules.specs.declared.Entry.{Entry}
 use Rattle.rules.specs.Acts.{closed}
 
--- the frame at the head of block b, with values of the buffer for the parameters at an offset
-abbrev pub at_head : List ℕ → ℕ → ℕ → List ℤ → Frame → Frame
-at_head s b p out m = bind_all (go_to m b 0) (arguments_at s p) (take (count_at s p) out)
+-- the frame at the head of a block that is entered, with values of the buffer for the parameters
+abbrev pub at_head : List ℕ → Entry → List ℤ → Frame → Frame
+at_head s e out m = bind_all (go_to m e.block 0) (arguments_at s e.parameters) (take (count_at s e.parameters) out)
 
-abbrev pub Temporaries : List ℕ → ℕ → Type 0
-Temporaries s p = Each (λ x. x < temporaries) (arguments_at s p)
+abbrev pub Temporaries : List ℕ → Entry → Type 0
+Temporaries s e = Each (λ x. x < temporaries) (arguments_at s e.parameters)
 
 -- of the frame at k
 abbrev pub Sets : List ℤ → ℕ → ℕ → ℤ → List ℤ → Type 0
 Sets ws k x v ws' =
     (m : Frame) → FrameHeld ws k m → x < temporaries → m.done < 255 → Became ws k (go_to (bind m x v) m.block (m.done + 1)) ws'
 
-abbrev pub Arrives : List ℕ → List ℤ → ℕ → ℕ → ℕ → List ℤ → List ℤ → Type 0
-Arrives s ws k b p out ws' = (m : Frame) → FrameHeld ws k m → Temporaries s p → Became ws k (at_head s b p out m) ws'
+abbrev pub Arrives : List ℕ → List ℤ → ℕ → Entry → List ℤ → List ℤ → Type 0
+Arrives s ws k e out ws' = (m : Frame) → FrameHeld ws k m → Temporaries s e → Became ws k (at_head s e out m) ws'
 
 abbrev pub Opens : List ℤ → ℕ → ℕ → ℕ → List ℤ → Type 0
 Opens ws k π b ws' =
@@ -42,16 +43,16 @@ Pushes ws i g n c out ws' =
     (a : Pool) (t : Thread) (b : Pool) → ThreadAt ws i a t b → Small t.newest → length (frames t) < most_frames
     → ThreadAt ws' i a (restacked t (begin g (take n out) ∷ go_to t.newest c 0 ∷ t.older)) b
 
-abbrev pub Pops : List ℕ → List ℤ → ℕ → ℕ → ℕ → List ℤ → List ℤ → Type 0
-Pops s ws i c p out ws' =
+abbrev pub Pops : List ℕ → List ℤ → ℕ → Entry → List ℤ → List ℤ → Type 0
+Pops s ws i e out ws' =
     (a : Pool) (t : Thread) (l m : Frame) (K : List Frame) (b : Pool) → ThreadAt ws i a (restacked t (l ∷ m ∷ K)) b → Small m
-    → Temporaries s p → ThreadAt ws' i a (restacked t (at_head s c p out m ∷ K)) b
+    → Temporaries s e → ThreadAt ws' i a (restacked t (at_head s e out m ∷ K)) b
 
-abbrev pub Unites : List ℕ → List ℤ → ℕ → ℕ → ℕ → List ℤ → List ℤ → Type 0
-Unites s ws i c p out ws' =
+abbrev pub Unites : List ℕ → List ℤ → ℕ → Entry → List ℤ → List ℤ → Type 0
+Unites s ws i e out ws' =
     (a : Pool) (t u : Thread) (b : Pool) → ThreadAt ws i a t (u ∷ b) → Small t.newest
-    → 0 < length t.newest.calls → 0 < t.newest.promoted → Temporaries s p
-    → ThreadAt ws' i a (restacked t (at_head s c p out (closed t.newest (t.newest.promoted - 1)) ∷ t.older)) b
+    → 0 < length t.newest.calls → 0 < t.newest.promoted → Temporaries s e
+    → ThreadAt ws' i a (restacked t (at_head s e out (closed t.newest (t.newest.promoted - 1)) ∷ t.older)) b
 
 -- a new thread of function g directly behind thread i, and one more call of its frame at a place promoted
 abbrev pub Spawned : List ℤ → ℕ → ℕ → ℕ → ℕ → List ℤ → List ℤ → Type 0

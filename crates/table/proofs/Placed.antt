@@ -26,9 +26,11 @@ use Rattle.places.specs.Layout.{absent, function_index, spawn_index, block_index
 use Rattle.places.specs.Marks.{short, put, nowhere, mark_function, mark_spawn, mark_block, mark_head, paired, length_of}
 use Rattle.places.specs.Places as Places
 use Rattle.places.specs.Places.{spawn_in, Entry, PlacesBy}
+use Rattle.table.specs.declared.Version.{Version}
+use Rattle.table.specs.declared.Version.TheVariants.{One, Two}
 use Rattle.table.specs.Versions.{head_of}
 use Rattle.table.specs.Skips.{skip_of}
-use Rattle.table.specs.declared.grammar.Skip.{Skip}
+use Rattle.std.specs.Prelude.{Ok}
 use Rattle.table.specs.Marks.{onward, marked, Along, along, block_marks_by, Many, sizes, function_marks_by, program_marks_by}
 use Rattle.table.proofs.Marks.{few-of}
 
@@ -318,18 +320,17 @@ bare-heads =
           (omega arith, omega arith);
     }
 
-pub heads-of : (brief : Bool) → Heads (head_of brief)
-heads-of false = heads
-heads-of true = bare-heads
+pub heads-of : (v : Version) → Heads (head_of v)
+heads-of One = heads
+heads-of Two = bare-heads
 
 -- the same, of passing over a head
-pub head-takes : (brief : Bool) (s : List ℕ) (at m : ℕ) (q : Skip) → q ≡ skip_of (head_of brief s at) → q ≡ Skip.At m
-    → (at ≤ m) × (m < at + 256)
+pub head-takes : (v : Version) (s : List ℕ) (at m : ℕ) → Ok m ≡ skip_of (head_of v s at) → (at ≤ m) × (m < at + 256)
 unfolding skip_of
-head-takes brief s at m q e a = go (head_of brief s at) refl (sym e ∙ a)
+head-takes v s at m e = go (head_of v s at) refl e
   where
-    go : (o : Parsed Head) → head_of brief s at ≡ o → skip_of o ≡ Skip.At m → (at ≤ m) × (m < at + 256)
-    go (Parsed.ok h k) is f = let z : k ≡ m = cc in let t = (heads-of brief).takes s at h k is in (omega arith, omega arith)
+    go : (o : Parsed Head) → head_of v s at ≡ o → Ok m ≡ skip_of o → (at ≤ m) × (m < at + 256)
+    go (Parsed.ok h k) is f = let z : k ≡ m = cc in let t = (heads-of v).takes s at h k is in (omega arith, omega arith)
     go (Parsed.bad x) is f = absurd (let z : ◌≡◌ {A = ℕ} 0 1 = cc in omega arith)
 
 -- two lengths in an entry: a block's own, and the one before it

@@ -1,8 +1,8 @@
 -- The grammar's rules, passed over: which of them take the same bytes, and what stands behind a kind.
-use Prim.Native.Nat.{ℕ, zero, suc, ◌≤◌, ◌<◌}
+use Prim.Native.Nat.{ℕ, zero, suc, ◌≤◌, min}
 use native.Mathlib.Omega.{arith}
-use mathlib.Core.Path.{◌≡◌, refl, sym, ap, ◌∙◌, subst}
-use mathlib.Core.Bool.{Bool, true, false, cond}
+use mathlib.Core.Path.{◌≡◌, refl, sym, ap, ◌∙◌}
+use mathlib.Core.Bool.{true, false, cond}
 use mathlib.Core.List.{List}
 use lib.Dec.{eqb}
 use borrow.Author.Tests.{eq-eqb, ne_eqb}
@@ -10,13 +10,11 @@ use Rattle.model.specs.Read.{Parsed, Parser, next, byte, many, pick}
 use Rattle.model.specs.Read as Read
 use Rattle.model.specs.Syntax.{Atom, Expression}
 use Rattle.model.proofs.Reading.{byte-ok}
-use Rattle.code.specs.Bytes.{operands}
+use Rattle.code.specs.Bytes.{byte_at, operands}
 use Rattle.table.specs.Skips.{skip_of, byte_of}
-use Rattle.table.specs.Versions.{head_of}
-use Rattle.table.specs.declared.grammar.Skip.{Skip}
-use Rattle.table.specs.declared.grammar.Found.{Found}
+use Rattle.std.specs.Prelude.{Result, Ok, Err}
 use mathlib.Core.Logic.{◌≢◌}
-use Rattle.table.proofs.Laws.{skip-then, skip-else, skip-last, skip-ok, skips, arms}
+use Rattle.table.proofs.Laws.{byte-then, skip-then, skip-else, skip-last, skip-ok, skips}
 
 -- two readings that end alike, whatever they read, and go on alike
 pub next-next : (A B C : Type 0) (p : Parsed A) (k : A → ℕ → Parsed B) (l : B → ℕ → Parsed C)
@@ -50,7 +48,7 @@ pub half-bytes : (s : List ℕ) (at : ℕ) → skip_of (Read.half s at) ≡ skip
 unfolding Read.half many
 half-bytes s at = simp flat (search alike)
 
-name-bytes : (s : List ℕ) (at : ℕ) → skip_of (byte 0 255 s at) ≡ skip_of (many (byte 0 255) 1 s at)
+pub name-bytes : (s : List ℕ) (at : ℕ) → skip_of (byte 0 255 s at) ≡ skip_of (many (byte 0 255) 1 s at)
 unfolding many
 name-bytes s at = simp flat (skip-last _ _ (byte 0 255 s at) _ _ refl (λ a m. skip-ok _ _ m))
 
@@ -78,29 +76,34 @@ goto-spawn : (s : List ℕ) (at : ℕ) → skip_of (Read.goto s at) ≡ skip_of 
 unfolding Read.goto Read.spawn_call
 goto-spawn s at = search alike
 
-call-spawn : (s : List ℕ) (at : ℕ) → skip_of (Read.call s at) ≡ skip_of (next (Read.spawn_call s at) (λ S m. many (byte 0 255) 1 s m))
-unfolding Read.call Read.spawn_call Read.name many
-call-spawn s at = simp flat (search alike)
+call-spawn : (s : List ℕ) (at : ℕ) → skip_of (Read.call s at) ≡ skip_of (next (Read.spawn_call s at) (λ S m. Read.name s m))
+unfolding Read.call Read.spawn_call
+call-spawn s at =
+    simp flat
+    (same_next _ _ _ _ (Read.name s at) _ _ _ refl
+    (λ g h m.
+    same_next _ _ _ _ (Read.arguments s m) _ _ _ refl
+    (λ x y e. sym (skip-last _ _ (Read.name s e) _ _ refl (λ b k. skip-ok _ _ k)))))
 
 if-names : (s : List ℕ) (at : ℕ) → skip_of (Read.if s at) ≡ skip_of (next (Read.expression s at) (λ e m. many (byte 0 255) 2 s m))
 unfolding Read.if Read.name many
 if-names s at = simp flat (search alike)
 
 -- a byte that was found is in its range
-pub found-range : (lo hi : ℕ) (s : List ℕ) (at : ℕ) (f : Found) (v m : ℕ) → byte_of f ≡ byte lo hi s at → f ≡ Found.Byte v m → v ≤ hi
+pub found-range : (lo hi : ℕ) (s : List ℕ) (at v m : ℕ) → byte_of (Ok (v, m)) ≡ byte lo hi s at → v ≤ hi
 unfolding byte_of
-found-range lo hi s at f v m e a = (byte-ok lo hi s at v m (sym e ∙ ap byte_of a)).high
+found-range lo hi s at v m e = (byte-ok lo hi s at v m (sym e)).high
 
 -- what stands behind an atom's kind, and behind an expression's
-pub atom-value : (s : List ℕ) (v m : ℕ) (r : Skip) → v ≡ 0 → r ≡ skip_of (many (byte 0 255) 4 s m) → r ≡ skip_of (pick Read.atoms v s m)
+pub atom-value : (s : List ℕ) (v m : ℕ) (r : Result ℕ ℕ) → v ≡ 0 → r ≡ skip_of (many (byte 0 255) 4 s m) → r ≡ skip_of (pick Read.atoms v s m)
 unfolding pick
 atom-value s v m r z e = e ∙ sym (value-bytes s m) ∙ ap (λ (k : ℕ). skip_of (pick Read.atoms k s m)) (sym z)
 
-pub atom-variable : (s : List ℕ) (at v m : ℕ) (r : Skip) (f : Found) → byte_of f ≡ byte 0 1 s at → f ≡ Found.Byte v m → (v ≡ 0 → ⊥)
+pub atom-variable : (s : List ℕ) (at v m : ℕ) (r : Result ℕ ℕ) → byte_of (Ok (v, m)) ≡ byte 0 1 s at → (v ≡ 0 → ⊥)
     → r ≡ skip_of (Read.temporary s m) → r ≡ skip_of (pick Read.atoms v s m)
 unfolding pick
-atom-variable s at v m r f b a z e =
-    let h : v ≤ 1 = found-range 0 1 s at f v m b a in
+atom-variable s at v m r b z e =
+    let h : v ≤ 1 = found-range 0 1 s at v m b in
     let o : v ≢ 0 = z in
     let i : v ≡ 1 = omega arith in
     e ∙ sym (variable-byte s m) ∙ ap (λ (k : ℕ). skip_of (pick Read.atoms k s m)) (sym i)
@@ -125,123 +128,80 @@ operands-atoms (suc (suc zero)) s m h = binary-atoms _ s m
 operands-atoms (suc (suc (suc zero))) s m h = binary-atoms _ s m
 operands-atoms (suc (suc (suc (suc v)))) s m h = absurd (omega arith)
 
-module _ (s : List ℕ) (at v m : ℕ) (f : Found) (q : Skip) (b : byte_of f ≡ byte 0 3 s at) (a : f ≡ Found.Byte v m)
-    (e : q ≡ skip_of (Read.atom s m)) where
-  behind : (r : Skip) → r ≡ skip_of (atoms (operands v) s m) → r ≡ skip_of (pick Read.expressions v s m)
-  behind r h = h ∙ operands-atoms v s m (found-range 0 3 s at f v m b a)
+module _ (s : List ℕ) (at v m : ℕ) (b : byte_of (Ok (v, m)) ≡ byte 0 3 s at) where
+  behind : (r : Result ℕ ℕ) → r ≡ skip_of (atoms (operands v) s m) → r ≡ skip_of (pick Read.expressions v s m)
+  behind r h = h ∙ operands-atoms v s m (found-range 0 3 s at v m b)
 
-  pub first-bad : (x : ℕ) → q ≡ Skip.Bad x → Skip.Bad x ≡ skip_of (pick Read.expressions v s m)
-  first-bad x z = behind _ (skip-else _ _ (Read.atom s m) _ x (sym e ∙ z))
+  pub first-bad : (r : Result ℕ ℕ) (x : ℕ) → Err x ≡ skip_of (Read.atom s m) → r ≡ Err x → r ≡ skip_of (pick Read.expressions v s m)
+  first-bad r x e o = behind r (skip-else _ _ (Read.atom s m) _ r x e o)
 
-  pub one-atom : (k n : ℕ) → q ≡ Skip.At k → n ≡ operands v → (n ≡ 2 → ⊥) → Skip.At k ≡ skip_of (pick Read.expressions v s m)
-  one-atom k n z o u =
+  pub one-atom : (k n : ℕ) → Ok k ≡ skip_of (Read.atom s m) → n ≡ operands v → (n ≡ 2 → ⊥)
+      → Ok k ≡ skip_of (pick Read.expressions v s m)
+  one-atom k n e o u =
       let w : eqb (operands v) 2 ≡ false = ne_eqb (operands v) 2 (λ d. u (o ∙ d)) in
-      behind _ (skip-then _ _ (Read.atom s m) _ _ q k e z (λ x. rw w (skip-ok _ x k)))
+      behind _ (skip-then _ _ (Read.atom s m) _ _ k e (λ x. rw w (skip-ok _ x k)))
 
-  pub two-atoms : (k n : ℕ) (r : Skip) → q ≡ Skip.At k → n ≡ operands v → n ≡ 2 → r ≡ skip_of (Read.atom s k)
+  pub two-atoms : (k n : ℕ) (r : Result ℕ ℕ) → Ok k ≡ skip_of (Read.atom s m) → n ≡ operands v → n ≡ 2 → r ≡ skip_of (Read.atom s k)
       → r ≡ skip_of (pick Read.expressions v s m)
-  two-atoms k n r z o u h =
+  two-atoms k n r e o u h =
       let w : eqb (operands v) 2 ≡ true = eq-eqb (operands v) 2 (sym o ∙ u) in
-      behind _ (skip-then _ _ (Read.atom s m) _ _ q k e z (λ x. rw w h))
+      behind r (skip-then _ _ (Read.atom s m) _ r k e (λ x. rw w h))
 
--- what stands behind a transfer's kind
-module _ (s : List ℕ) (at kind : ℕ) (r : Skip) where
-  at-kind : (k : ℕ) → kind ≡ k → r ≡ skip_of (pick Read.transfers k s at) → r ≡ skip_of (pick Read.transfers kind s at)
-  at-kind k e h = h ∙ ap (λ (j : ℕ). skip_of (pick Read.transfers j s at)) (sym e)
+-- a transfer's kind, and what stands behind it
+pub kind-found : (s : List ℕ) (at v m n : ℕ) → byte_of (Ok (v, m)) ≡ byte 0 5 s at → n ≡ min (byte_at s at) 5 → n ≡ v
+unfolding byte_of
+kind-found s at v m n e k = let c = byte-ok 0 5 s at v m (sym e) in omega (arith, c.is, c.high, k)
 
-  pub goto-skip : kind ≡ 0 → r ≡ skip_of (Read.spawn_call s at) → r ≡ skip_of (pick Read.transfers kind s at)
+module _ (s : List ℕ) (at : ℕ) (r : Result ℕ ℕ) where
+  pub goto-skip : r ≡ skip_of (Read.spawn_call s at) → r ≡ skip_of (pick Read.transfers 0 s at)
   unfolding pick
-  goto-skip e h = at-kind 0 e (h ∙ sym (goto-spawn s at))
+  goto-skip e = e ∙ sym (goto-spawn s at)
 
-  pub if-skip : kind ≡ 1 → r ≡ skip_of (Read.if s at) → r ≡ skip_of (pick Read.transfers kind s at)
+  pub if-skip : r ≡ skip_of (Read.if s at) → r ≡ skip_of (pick Read.transfers 1 s at)
   unfolding pick
-  if-skip e h = at-kind 1 e h
+  if-skip e = e
 
-  pub call-skip : kind ≡ 2 → r ≡ skip_of (Read.call s at) → r ≡ skip_of (pick Read.transfers kind s at)
+  pub call-skip : r ≡ skip_of (Read.call s at) → r ≡ skip_of (pick Read.transfers 2 s at)
   unfolding pick
-  call-skip e h = at-kind 2 e h
+  call-skip e = e
 
-  pub return-skip : kind ≡ 3 → r ≡ skip_of (Read.counted 4 (byte 0 15) s at) → r ≡ skip_of (pick Read.transfers kind s at)
+  pub return-skip : r ≡ skip_of (Read.counted 4 Read.temporary s at) → r ≡ skip_of (pick Read.transfers 3 s at)
+  unfolding pick Read.temporary
+  return-skip e = e ∙ sym (return-bytes s at)
+
+  pub spork-skip : r ≡ skip_of (many (byte 0 255) 2 s at) → r ≡ skip_of (pick Read.transfers 4 s at)
   unfolding pick
-  return-skip e h = at-kind 3 e (h ∙ sym (return-bytes s at))
+  spork-skip e = e ∙ sym (spork-bytes s at)
 
-  pub spork-skip : kind ≡ 4 → r ≡ skip_of (many (byte 0 255) 2 s at) → r ≡ skip_of (pick Read.transfers kind s at)
+  pub spoin-skip : r ≡ skip_of (many (byte 0 255) 2 s at) → r ≡ skip_of (pick Read.transfers 5 s at)
   unfolding pick
-  spork-skip e h = at-kind 4 e (h ∙ sym (spork-bytes s at))
-
-  pub spoin-skip : kind ≡ 5 → r ≡ skip_of (many (byte 0 255) 2 s at) → r ≡ skip_of (pick Read.transfers kind s at)
-  unfolding pick
-  spoin-skip e h = at-kind 5 e (h ∙ sym (spoin-bytes s at))
-
-no_kind : (kind : ℕ) (s : List ℕ) (at : ℕ) → 5 < kind → Skip.Bad at ≡ skip_of (pick Read.transfers kind s at)
-unfolding pick skip_of
-no_kind (suc (suc (suc (suc (suc (suc k)))))) s at h = refl
-no_kind zero s at h = absurd (omega arith)
-no_kind (suc zero) s at h = absurd (omega arith)
-no_kind (suc (suc zero)) s at h = absurd (omega arith)
-no_kind (suc (suc (suc zero))) s at h = absurd (omega arith)
-no_kind (suc (suc (suc (suc zero)))) s at h = absurd (omega arith)
-no_kind (suc (suc (suc (suc (suc zero))))) s at h = absurd (omega arith)
-
-pub other-skip : (s : List ℕ) (at kind : ℕ) → 5 < kind → Skip.Bad at ≡ skip_of (pick Read.transfers kind s at)
-other-skip s at kind h = no_kind kind s at h
+  spoin-skip e = e ∙ sym (spoin-bytes s at)
 
 -- two names behind an expression, one behind a call's arguments, and what stands behind a scope and behind a name
-pub if-then : (s : List ℕ) (at m : ℕ) (r q : Skip) → q ≡ skip_of (Read.expression s at) → q ≡ Skip.At m
-    → r ≡ skip_of (many (byte 0 255) 2 s m) → r ≡ skip_of (Read.if s at)
-if-then s at m r q b a e = skip-then _ _ (Read.expression s at) _ r q m b a (λ x. e) ∙ sym (if-names s at)
+module _ (s : List ℕ) (at : ℕ) (r : Result ℕ ℕ) where
+  pub if-then : (m : ℕ) → Ok m ≡ skip_of (Read.expression s at) → r ≡ skip_of (many (byte 0 255) 2 s m) → r ≡ skip_of (Read.if s at)
+  if-then m a e = skip-then _ _ (Read.expression s at) _ r m a (λ x. e) ∙ sym (if-names s at)
 
-pub if-else : (s : List ℕ) (at x : ℕ) → skip_of (Read.expression s at) ≡ Skip.Bad x → Skip.Bad x ≡ skip_of (Read.if s at)
-if-else s at x a = skip-else _ _ (Read.expression s at) _ x a ∙ sym (if-names s at)
+  pub if-else : (x : ℕ) → Err x ≡ skip_of (Read.expression s at) → r ≡ Err x → r ≡ skip_of (Read.if s at)
+  if-else x a o = skip-else _ _ (Read.expression s at) _ r x a o ∙ sym (if-names s at)
 
-pub call-then : (s : List ℕ) (at m : ℕ) (r q : Skip) → q ≡ skip_of (Read.spawn_call s at) → q ≡ Skip.At m
-    → r ≡ skip_of (many (byte 0 255) 1 s m) → r ≡ skip_of (Read.call s at)
-call-then s at m r q b a e = skip-then _ _ (Read.spawn_call s at) _ r q m b a (λ x. e) ∙ sym (call-spawn s at)
+  pub call-then : (m : ℕ) → Ok m ≡ skip_of (Read.spawn_call s at) → r ≡ skip_of (Read.name s m) → r ≡ skip_of (Read.call s at)
+  call-then m a e = skip-then _ _ (Read.spawn_call s at) _ r m a (λ x. e) ∙ sym (call-spawn s at)
 
-pub call-else : (s : List ℕ) (at x : ℕ) → skip_of (Read.spawn_call s at) ≡ Skip.Bad x → Skip.Bad x ≡ skip_of (Read.call s at)
-call-else s at x a = skip-else _ _ (Read.spawn_call s at) _ x a ∙ sym (call-spawn s at)
+  pub call-else : (x : ℕ) → Err x ≡ skip_of (Read.spawn_call s at) → r ≡ Err x → r ≡ skip_of (Read.call s at)
+  call-else x a o = skip-else _ _ (Read.spawn_call s at) _ r x a o ∙ sym (call-spawn s at)
 
-pub half-then : (B : Type 0) (s : List ℕ) (at : ℕ) (k : ℕ → ℕ → Parsed B) (r q : Skip) (m : ℕ) → q ≡ skip_of (many (byte 0 255) 2 s at)
-    → q ≡ Skip.At m → ((a : ℕ) → r ≡ skip_of (k a m)) → r ≡ skip_of (next (Read.half s at) k)
-half-then B s at k r q m e a h = skip-then _ _ (Read.half s at) k r q m (e ∙ sym (half-bytes s at)) a h
+  module _ (B : Type 0) (k : ℕ → ℕ → Parsed B) where
+    pub half-then : (m : ℕ) → Ok m ≡ skip_of (many (byte 0 255) 2 s at) → ((a : ℕ) → r ≡ skip_of (k a m))
+        → r ≡ skip_of (next (Read.half s at) k)
+    half-then m e h = skip-then _ _ (Read.half s at) k r m (e ∙ sym (half-bytes s at)) h
 
-pub half-bad : (s : List ℕ) (at : ℕ) (q : Skip) (x : ℕ) → q ≡ skip_of (many (byte 0 255) 2 s at) → q ≡ Skip.Bad x
-    → skip_of (Read.half s at) ≡ Skip.Bad x
-half-bad s at q x e a = half-bytes s at ∙ sym e ∙ a
+    pub half-else : (x : ℕ) → Err x ≡ skip_of (many (byte 0 255) 2 s at) → r ≡ Err x → r ≡ skip_of (next (Read.half s at) k)
+    half-else x e o = skip-else _ _ (Read.half s at) k r x (e ∙ sym (half-bytes s at)) o
 
-pub name-then : (B : Type 0) (s : List ℕ) (at : ℕ) (k : ℕ → ℕ → Parsed B) (r q : Skip) (m : ℕ) → q ≡ skip_of (many (byte 0 255) 1 s at)
-    → q ≡ Skip.At m → ((a : ℕ) → r ≡ skip_of (k a m)) → r ≡ skip_of (next (byte 0 255 s at) k)
-name-then B s at k r q m e a h = skip-then _ _ (byte 0 255 s at) k r q m (e ∙ sym (name-bytes s at)) a h
-
-pub name-bad : (s : List ℕ) (at : ℕ) (q : Skip) (x : ℕ) → q ≡ skip_of (many (byte 0 255) 1 s at) → q ≡ Skip.Bad x
-    → skip_of (byte 0 255 s at) ≡ Skip.Bad x
-name-bad s at q x e a = name-bytes s at ∙ sym e ∙ a
-
--- a head by its version
-pub bare-skip : (brief : Bool) (s : List ℕ) (at : ℕ) (r : Skip) → brief ≡ true → r ≡ skip_of (Read.counted 8 Read.temporary s at)
-    → r ≡ skip_of (head_of brief s at)
+-- a head without a scope and a nesting
+pub bare-skip : (s : List ℕ) (at : ℕ) (r : Result ℕ ℕ) → r ≡ skip_of (Read.counted 8 Read.temporary s at) → r ≡ skip_of (Read.bare s at)
 unfolding Read.bare Read.arguments
-bare-skip brief s at r e h =
-    subst (λ (b : Bool). r ≡ skip_of (head_of b s at)) (sym e)
-    (skip-last _ _ (Read.counted 8 Read.temporary s at) _ r h (λ a m. skip-ok _ _ m))
+bare-skip s at r h = skip-last _ _ (Read.counted 8 Read.temporary s at) _ r h (λ a m. skip-ok _ _ m)
 
-pub full-skip : (brief : Bool) (s : List ℕ) (at : ℕ) (r : Skip) → brief ≡ false → r ≡ skip_of (Read.head s at)
-    → r ≡ skip_of (head_of brief s at)
-full-skip brief s at r e h = subst (λ (b : Bool). r ≡ skip_of (head_of b s at)) (sym e) h
-
-pub ruleset kinds-of = (name-then, name-bad, atom-value, atom-variable, first-bad, one-atom, two-atoms, half-then, half-bad, skips)
-
-pub ruleset transfers = (
-  goto-skip,
-  if-skip,
-  call-skip,
-  return-skip,
-  spork-skip,
-  spoin-skip,
-  other-skip,
-  if-then,
-  if-else,
-  call-then,
-  call-else,
-  arms,
-)
+pub ruleset kinds-of = (atom-value, atom-variable, first-bad, one-atom, two-atoms, half-then, half-else, skips)

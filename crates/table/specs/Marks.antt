@@ -1,11 +1,10 @@
 -- What the walk over a table keeps as it goes: the places of functions, spawn calls and blocks. The head's parser is a parameter,
 -- as it is of the grammar.
-use Rattle.std.specs.Prelude.{ℕ, zero, suc, ◌+◌, ◌-◌, ◌≡◌, List}
+use Rattle.std.specs.Prelude.{ℕ, zero, suc, ◌+◌, ◌-◌, ◌≡◌, List, Result, Ok, Err}
 use Rattle.model.specs.Syntax.{Head}
 use Rattle.model.specs.Read.{Parsed, Parser, byte, many, spawn_call, block_by, function_by}
 use Rattle.model.specs.Read as Read
 use Rattle.places.specs.Marks.{mark_function, mark_spawn, mark_block, mark_head}
-use Rattle.table.specs.declared.grammar.Skip.{Skip}
 use Rattle.table.specs.declared.walk.Sizes.{Sizes}
 
 -- where a reading ends
@@ -40,9 +39,9 @@ unfoldable pub sizes : Parser Many
 sizes = Read.◌>>=◌ (byte 0 8) λ n. Read.◌>>=◌ (byte 0 4) λ r. Read.◌>>=◌ (byte 1 32) λ b. Read.◌>>=◌ (byte 0 8) λ c. Read.pure
     (record { blocks = b; spawns = c })
 
-unfoldable pub sizes_of : Sizes → Parsed Many
-sizes_of (Sizes.Has b c at) = Parsed.ok (record { blocks = b; spawns = c }) at
-sizes_of (Sizes.Lacks place) = Parsed.bad place
+unfoldable pub sizes_of : Result Sizes ℕ → Parsed Many
+sizes_of (Ok z) = Parsed.ok (record { blocks = z.blocks; spawns = z.spawns }) z.next
+sizes_of (Err place) = Parsed.bad place
 
 -- the places after function f at at
 unfoldable pub function_marks_by : Parser Head → List ℕ → ℕ → ℕ → List ℕ → List ℕ
@@ -61,6 +60,6 @@ program_marks_by p s at places =
     onward (byte 1 16 s at) (λ n m. marked (function_by p) (function_marks_by p s) n s m 0 places) places
 
 -- where all was passed over, the places are these
-unfoldable pub Kept : Skip → List ℕ → List ℕ → Type 0
-Kept (Skip.At at) places due = places ≡ due
-Kept (Skip.Bad place) places due = Unit {0}
+unfoldable pub Kept : Result ℕ ℕ → List ℕ → List ℕ → Type 0
+Kept (Ok at) places due = places ≡ due
+Kept (Err place) places due = Unit {0}

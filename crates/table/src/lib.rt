@@ -4,19 +4,46 @@
 ghost use Rattle.std.specs.Prelude.{◌≡◌};
 ghost use Rattle.model.specs.Read as Read;
 ghost use Rattle.code.specs.Bytes.{byte_at, past, word_at};
-ghost use Rattle.places.specs.Marks.{nowhere};
 ghost use Rattle.table.specs.Versions.{version_of};
-ghost use Rattle.table.specs.Reading.{ReadAs, BriefAs, ReadBy, ReadFrom};
+ghost use Rattle.table.specs.Reading.{ReadAs, BriefAs, ReadBy, ReadFrom, WalkedFrom};
 
-use answers::{Answer, No, Refusal};
+use answers::{No, Refusal};
 use code::Table;
 use places::Places;
 
 mod grammar;
 mod walk;
 
+// The versions of document 01's table.
+#[derive(Clone, Copy, PartialEq, Eq, Debug)]
+pub enum Version {
+    One,
+    Two,
+}
+
+impl Version {
+    fn number(self) -> u8
+        ensures { result ≡ (version_of self).number }
+    {
+        match self {
+            Version::One => Table::VERSION,
+            Version::Two => Table::BRIEF,
+        }
+    }
+
+    // How long its tables may be.
+    fn most(self) -> usize
+        ensures { result ≡ (version_of self).most }
+    {
+        match self {
+            Version::One => Table::MOST,
+            Version::Two => Table::BRIEF_MOST,
+        }
+    }
+}
+
 // The reader of a table: its bytes and an offset in them.
-#[derive(Clone, Copy)]
+#[derive(Clone, Copy, PartialEq, Eq, Debug)]
 pub struct Reader<'a> {
     pub src: &'a [u8],
     pub at: usize,
@@ -51,12 +78,18 @@ impl<'a> Reader<'a> {
         Reader { src: self.src, at }
     }
 
-    // The functions from where the reader stands, by the length field and the version: 1 to 3, or given.
-    pub fn functions(self, field: u32, version: u8, brief: bool, places: &mut Places) -> Answer
-        ensures { ReadFrom brief self.entry.src.now self.entry.at field version
+    // The functions from where the reader stands, by the length field and the version's number: 1 to 3, or given.
+    pub fn functions(
+        self,
+        field: u32,
+        number: u8,
+        version: Version,
+        places: &mut Places,
+    ) -> Result<(), Refusal>
+        ensures { ReadFrom version self.entry.src.now self.entry.at field number
             places.old places.new result }
     {
-        tested(self.src, self.at, field, version, brief, places)
+        tested(self.src, self.at, field, number, version, places)
     }
 }
 
@@ -68,87 +101,80 @@ pub fn length_field(s: &[u8]) -> u32
 }
 
 // Reads a table: 1 to 3, or given. The places of its program are put into what was there; where it does not read they are none.
-pub fn read(s: &[u8], places: &mut Places) -> Answer
+pub fn read(s: &[u8], places: &mut Places) -> Result<(), Refusal>
     ensures { ReadAs s.now places.old places.new result }
 {
-    read_by(s, false, places)
+    read_by(s, Version::One, places)
 }
 
 // The same of a table of version 2.
-pub fn read_brief(s: &[u8], places: &mut Places) -> Answer
+pub fn read_brief(s: &[u8], places: &mut Places) -> Result<(), Refusal>
     ensures { BriefAs s.now places.old places.new result }
 {
-    read_by(s, true, places)
+    read_by(s, Version::Two, places)
 }
 
-// By the version: whether the table is brief.
-fn read_by(s: &[u8], brief: bool, places: &mut Places) -> Answer
-    ensures { ReadBy brief s.now places.old places.new result }
+// By the version.
+fn read_by(s: &[u8], version: Version, places: &mut Places) -> Result<(), Refusal>
+    ensures { ReadBy version s.now places.old places.new result }
 {
     let start = Reader::new(s);
     let field = start.number();
     let behind = start.moved(4);
-    let version = behind.byte();
-    behind.moved(1).functions(field, version, brief, places)
+    let number = behind.byte();
+    behind.moved(1).functions(field, number, version, places)
 }
 
-// 1, then 2, then 3: by the length field, the version, and the functions from an offset on.
-fn tested(s: &[u8], at: usize, field: u32, version: u8, brief: bool, places: &mut Places) -> Answer
-    ensures { ReadFrom brief s.now at field version places.old places.new result }
+// 1, then 2, then 3: by the length field, the version's number, and the functions from an offset on. Where it refuses, the places
+// are none.
+fn tested(
+    s: &[u8],
+    at: usize,
+    field: u32,
+    number: u8,
+    version: Version,
+    places: &mut Places,
+) -> Result<(), Refusal>
+    ensures { ReadFrom version s.now at field number places.old places.new result }
 {
-    if sized(s, field, brief) {
-        if version != number(brief) {
-            return refused(Refusal::Plain(No::VERSION), places);
-        }
-        match walk::program(s, at, brief, places) {
-            grammar::Skip::At(end) => {
-                if end == s.len() {
-                    Answer::Given
-                } else {
-                    refused(Refusal::Byte(end), places)
-                }
-            }
-            grammar::Skip::Bad(place) => refused(Refusal::Byte(place), places),
-        }
-    } else {
-        refused(Refusal::Plain(No::SIZE), places)
+    let answer = walked(s, at, field, number, version, places);
+    if answer.is_err() {
+        places::clear(places);
     }
+    answer
 }
 
-// The version's number, and how long its tables may be.
-fn number(brief: bool) -> u8
-    ensures { result ≡ (version_of brief).number }
+// The same, but where it refuses, the places are those that the walk kept.
+fn walked(
+    s: &[u8],
+    at: usize,
+    field: u32,
+    number: u8,
+    version: Version,
+    places: &mut Places,
+) -> Result<(), Refusal>
+    ensures { WalkedFrom version s.now at field number places.old places.new result }
 {
-    if brief { Table::BRIEF } else { Table::VERSION }
-}
-
-fn most(brief: bool) -> usize
-    ensures { result ≡ (version_of brief).most }
-{
-    if brief {
-        Table::BRIEF_MOST
+    if !sized(s, field, version) {
+        return Err(Refusal::Plain(No::SIZE));
+    }
+    if number != version.number() {
+        return Err(Refusal::Plain(No::VERSION));
+    }
+    let end = walk::program(s, at, version, places).map_err(Refusal::Byte)?;
+    if end == s.len() {
+        Ok(())
     } else {
-        Table::MOST
+        Err(Refusal::Byte(end))
     }
 }
 
 // Whether the size is within the limits, and the length field says it.
-fn sized(s: &[u8], field: u32, brief: bool) -> bool
-    ensures { result ≡ Read.sized_as (version_of brief) s.now field }
+fn sized(s: &[u8], field: u32, version: Version) -> bool
+    ensures { result ≡ Read.sized_as (version_of version) s.now field }
 {
-    if s.len() < 6 {
-        return false;
-    }
-    if most(brief) < s.len() {
+    if s.len() < 6 || version.most() < s.len() {
         return false;
     }
     field as usize == s.len()
-}
-
-// A refusal: the places are none.
-fn refused(why: Refusal, places: &mut Places) -> Answer
-    ensures { (result ≡ Answer.Refused why) × (places.new ≡ nowhere) }
-{
-    places::clear(places);
-    Answer::Refused(why)
 }

@@ -8,25 +8,21 @@ use Rattle.model.specs.Syntax.{Block, SpawnCall, Function, Program}
 use Rattle.model.specs.Read as Read
 use Rattle.model.specs.Pool.{block_in}
 use Rattle.model.specs.WellFormed.{env}
-use Rattle.places.specs.declared.Place.{Place}
-use Rattle.places.specs.declared.Place.TheVariants.{At, Nowhere}
-use Rattle.places.specs.Places.{Places, Found, spawn_in, FindsFunction, FindsBlock, FindsSpawn}
+use Rattle.std.specs.Prelude.{Some, None}
+use Rattle.places.specs.Places.{Place, Places, Found, spawn_in, FindsFunction, FindsBlock, FindsSpawn}
 use Rattle.code.specs.Bytes.{byte_at, past}
 use Rattle.code.specs.declared.Opening.{Opening}
 use Rattle.code.specs.Code.{opening_at, spawn_at, signature_at, block_at}
 use Rattle.code.proofs.Ends.{opening-is}
 use Rattle.code.proofs.Decoding.{block-is, spawn-is, signature-is}
-use Rattle.targets.specs.declared.Target.TheVariants.{There, Missing}
-use Rattle.targets.specs.declared.Callee.{Callee}
-use Rattle.targets.specs.declared.Callee.TheVariants.{Takes, Unknown}
-use Rattle.targets.specs.Targets.{Within, Targets, Callees, Spawns}
+use Rattle.targets.specs.Targets.{Callee, Within, Targets, Callees, Spawns}
 
 -- functions by number
 module _ (s places : List ℕ) (g : ℕ) {r : Place} (find : FindsFunction places g r) (P : Program) (I : Places s P places) where
-  pub no-function : r ≡ Nowhere → get_elem? P g ≡ none
+  pub no-function : r ≡ None → get_elem? P g ≡ none
   no-function e = subst (λ (q : Place). Found Read.function s q (get_elem? P g)) e (find s P Read.head I)
 
-  pub function-at : {at : ℕ} → r ≡ At at → (F : Function) × (get_elem? P g ≡ some F) × (F.signature ≡ signature_at s at)
+  pub function-at : {at : ℕ} → r ≡ Some at → (F : Function) × (get_elem? P g ≡ some F) × (F.signature ≡ signature_at s at)
   function-at {at} e =
       let (F, there, reads) = subst (λ (q : Place). Found Read.function s q (get_elem? P g)) e (find s P Read.head I) in
       (F, there, signature-is s at F reads.behind I.short reads.is)
@@ -40,12 +36,12 @@ module _ (s places : List ℕ) (f b : ℕ) {r : Place} (find : FindsBlock places
       subst (λ (o : Option Function). Found Read.block s q (block_in o b)) W.there
       (subst (λ (q : Place). Found Read.block s q (block_in (get_elem? P f) b)) e (find s P Read.head W.index))
 
-  pub no_block : r ≡ Nowhere → get_elem? F.blocks b ≡ none
-  no_block e = block-found Nowhere e
+  pub no_block : r ≡ None → get_elem? F.blocks b ≡ none
+  no_block e = block-found None e
 
-  pub block-at : {at : ℕ} → r ≡ At at → get_elem? F.blocks b ≡ some (block_at s at)
+  pub block-at : {at : ℕ} → r ≡ Some at → get_elem? F.blocks b ≡ some (block_at s at)
   block-at {at} e =
-      let (B, there, reads) = block-found (At at) e in
+      let (B, there, reads) = block-found (Some at) e in
       there ∙ ap {B = Option Block} some (block-is s at B reads.behind W.index.short reads.is)
 
 -- spawn calls by number
@@ -57,39 +53,39 @@ module _ (s places : List ℕ) (f π : ℕ) {r : Place} (find : FindsSpawn place
       subst (λ (o : Option Function). Found Read.spawn_call s q (spawn_in o π)) W.there
       (subst (λ (q : Place). Found Read.spawn_call s q (spawn_in (get_elem? P f) π)) e (find s P Read.head W.index))
 
-  pub no-spawn : r ≡ Nowhere → get_elem? F.spawns π ≡ none
-  no-spawn e = spawn-found Nowhere e
+  pub no-spawn : r ≡ None → get_elem? F.spawns π ≡ none
+  no-spawn e = spawn-found None e
 
-  pub spawn-at : {at : ℕ} → r ≡ At at → get_elem? F.spawns π ≡ some (spawn_at s at)
+  pub spawn-at : {at : ℕ} → r ≡ Some at → get_elem? F.spawns π ≡ some (spawn_at s at)
   spawn-at {at} e =
-      let (S, there, reads) = spawn-found (At at) e in
+      let (S, there, reads) = spawn-found (Some at) e in
       there ∙ ap {B = Option SpawnCall} some (spawn-is s at S reads.behind W.index.short reads.is)
 
 -- the same, as the code has them
 module _ (s places : List ℕ) (g : ℕ) {r : Place} (h : FindsFunction places g r) where
-  pub callee-none : r ≡ Nowhere → Callees s places g Unknown
+  pub callee-none : r ≡ None → Callees s places g None
   callee-none e P I = rw (no-function s places g h P I e)
 
-  pub callee-there : {at k n m : ℕ} → r ≡ At at → n ≡ byte_at s at → k ≡ past at 1 → m ≡ byte_at s k → Callees s places g (Takes n m)
+  pub callee-there : {at k n m : ℕ} → r ≡ Some at → n ≡ byte_at s at → k ≡ past at 1 → m ≡ byte_at s k → Callees s places g (Some (n, m))
   unfolding signature_at
   callee-there e p q d P I =
       let (F, there, is) = function-at s places g h P I e in
       rw (there, is, p, d, q)
 
 module _ (s places : List ℕ) (f b : ℕ) {r : Place} (h : FindsBlock places f b r) where
-  pub target_none : r ≡ Nowhere → Targets s places f b Missing
+  pub target_none : r ≡ None → Targets s places f b None
   unfolding env
   target_none e P F W = rw (no_block s places f b h W e)
 
-  pub target-there : {at : ℕ} {o : Opening} → r ≡ At at → o ≡ opening_at s at → Targets s places f b (There o)
+  pub target-there : {at : ℕ} {o : Opening} → r ≡ Some at → o ≡ opening_at s at → Targets s places f b (Some o)
   unfolding env block_at
   target-there {at} e d P F W = rw (block-at s places f b h W e, d, opening-is s at)
 
 module _ (s places : List ℕ) (f π : ℕ) {r : Place} (h : FindsSpawn places f π r) where
-  pub spawned-none : r ≡ Nowhere → Spawns s places f π Unknown
+  pub spawned-none : r ≡ None → Spawns s places f π None
   unfolding env
   spawned-none e P F W = rw (no-spawn s places f π h W e)
 
-  pub spawned-there : (q : Callee) {at x : ℕ} → r ≡ At at → x ≡ byte_at s at → Callees s places x q → Spawns s places f π q
+  pub spawned-there : (q : Callee) {at x : ℕ} → r ≡ Some at → x ≡ byte_at s at → Callees s places x q → Spawns s places f π q
   unfolding env spawn_at
   spawned-there q e p o P F W = rw (spawn-at s places f π h W e, ← p) (o P W.index)

@@ -1,5 +1,5 @@
 -- What the lookups of targets and the tests of a transfer say, for every program that the places are those of.
-use Rattle.std.specs.Prelude.{ℕ, ◌≡◌, Bool, List, [], ◌∷◌, ◌++◌}
+use Rattle.std.specs.Prelude.{ℕ, ◌≡◌, Bool, List, [], ◌∷◌, ◌++◌, Option as Optional, Some, None, Result, Ok, Err}
 use Rattle.std.proofs.Math.Option.{Option, none, some, map}
 use Rattle.std.proofs.Math.ListN.{get_elem?}
 use Rattle.model.specs.Lists.{equal}
@@ -11,18 +11,27 @@ use Rattle.model.specs.Limits.{InTransfer}
 use Rattle.places.specs.Places.{Places}
 use Rattle.code.specs.Code.{run, head_in}
 use Rattle.code.specs.declared.Opening.{Opening}
-use Rattle.targets.specs.declared.Target.{Target}
-use Rattle.targets.specs.declared.Target.TheVariants.{There, Missing}
-use Rattle.targets.specs.declared.Callee.{Callee}
-use Rattle.targets.specs.declared.Callee.TheVariants.{Takes, Unknown}
+use Rattle.answers.specs.declared.No.{No}
 use Rattle.targets.specs.declared.Here.{Here}
-use Rattle.targets.specs.declared.Verdict.{Verdict}
-use Rattle.targets.specs.declared.Verdict.TheVariants.{Fine, Fault}
+
+-- no fault, or the first fault's number
+abbrev pub Verdict : Type 0
+Verdict = Result (Unit {0}) No
+
+abbrev pub fails : ℕ → Verdict
+fails n = Err (record { 0 = n })
 
 -- the fault that a verdict gives
 abbrev pub verdict_of : Verdict → Option ℕ
-verdict_of Fine = none
-verdict_of (Fault n) = some n
+verdict_of (Ok _) = none
+verdict_of (Err n) = some n.0
+
+-- a target's head, and a function's numbers of parameters and of returned values; or that there is none
+abbrev pub Target : Type 0
+Target = Optional Opening
+
+abbrev pub Callee : Type 0
+Callee = Optional (ℕ × ℕ)
 
 -- function f of a program that the places are those of is F
 pub record Within (s places : List ℕ) (f : ℕ) (P : Program) (F : Function) : Type 0 where
@@ -31,16 +40,16 @@ pub record Within (s places : List ℕ) (f : ℕ) (P : Program) (F : Function) :
 
 -- a block by number: its head
 abbrev pub target_of : List ℕ → Target → Option Head
-target_of s (There h) = some (head_in s h)
-target_of s Missing = none
+target_of s (Some h) = some (head_in s h)
+target_of s None = none
 
 abbrev pub Targets : List ℕ → List ℕ → ℕ → ℕ → Target → Type 0
 Targets s places f b r = (P : Program) (F : Function) → Within s places f P F → target_of s r ≡ (env P F).block b
 
 -- a function by number: its signature
 abbrev pub callee_of : Callee → Option Signature
-callee_of (Takes n m) = some (record { parameters = n; returns = m })
-callee_of Unknown = none
+callee_of (Some (n, m)) = some (record { parameters = n; returns = m })
+callee_of None = none
 
 abbrev pub Callees : List ℕ → List ℕ → ℕ → Callee → Type 0
 Callees s places g r = (P : Program) → Places s P places → callee_of r ≡ map signature_of (get_elem? P g)

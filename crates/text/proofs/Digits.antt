@@ -1,4 +1,4 @@
--- Decimals: the fewest digits of a number are its decimal, and a signed number by its 32 bits.
+-- Decimals: the fewest digits of a number are its decimal, and a signed number by its size.
 use Prim.Native.Nat.{ℕ, zero, suc, ◌+◌, ◌-◌, ◌/◌, ◌%◌, ◌^◌, ◌≤◌, ◌<◌}
 use native.Mathlib.Omega.{arith}
 use native.Mathlib.Nat.{pow-suc, pow-le-pow_right}
@@ -6,10 +6,9 @@ use mathlib.Core.Path.{◌≡◌, refl, ap}
 use mathlib.Core.Bool.{Bool, true, false}
 use mathlib.Core.List.{[], ◌∷◌, ◌++◌}
 use lib.Dec.{leb}
-use lib.IntN.{ℤ, pos, negsuc}
-use mir.Syntax.{w32}
-use mir.Val.{of_z, SFits}
-use borrow.Author.Tests.{lt-ltb, le-ltb, leb-true, leb-false}
+use lib.IntN.{ℤ, pos, negsuc, nat_abs}
+use lib.Signed.{lt_z}
+use borrow.Author.Tests.{lt-ltb, ltb-true, le-ltb, leb-true, leb-false}
 use Rattle.io.specs.Digits.{hex_digit_ascii, last_digits, IsDigitCount}
 use Rattle.model.specs.Text.{ascii, digit, decimal_in, decimal, part, signed_decimal, signed_part}
 
@@ -63,16 +62,13 @@ pub single : (n : ℕ) → n < 10 → digit n ∷ [] ≡ decimal n
 unfolding decimal decimal_in
 single n h = rw (lt-ltb n 10 h)
 
--- the bits of a number that is not negative are the number itself; those of a negative one are as far below 2 ^ 32 as it is below 0
-pub positive : (x : ℤ) (b : ℕ) → SFits w32 x → b ≡ of_z w32 x → b < 2 ^ 31 → part b ≡ signed_part x
+-- a signed number by its size: one that is not negative, and one that is
+pub positive : (x : ℤ) (n : ℕ) → n ≡ nat_abs x → lt_z x (pos 0) ≡ false → part n ≡ signed_part x
 unfolding part signed_part signed_decimal
-positive (pos n) b f e h = ap part e
-positive (negsuc n) b f e h = let k : n < 2 ^ 31 = f.sfits in absurd (omega arith)
+positive (pos m) n e t = ap part e
+positive (negsuc m) n e t = cc
 
-pub negative : (x : ℤ) (b : ℕ) → SFits w32 x → b ≡ of_z w32 x → 2 ^ 31 ≤ b → ascii " -" ++ decimal (4294967295 - b + 1) ≡ signed_part x
+pub negative : (x : ℤ) (n : ℕ) → n ≡ nat_abs x → lt_z x (pos 0) ≡ true → ascii " -" ++ decimal n ≡ signed_part x
 unfolding signed_part signed_decimal
-negative (pos n) b f e h = let k : n < 2 ^ 31 = f.sfits in absurd (omega arith)
-negative (negsuc n) b f e h =
-    let k : n < 2 ^ 31 = f.sfits in
-    let m : 4294967295 - b + 1 ≡ n + 1 = omega arith in
-    ap (λ (d : ℕ). ascii " -" ++ decimal d) m
+negative (pos m) n e t = let h : m < 0 = ltb-true m 0 t in absurd (omega arith)
+negative (negsuc m) n e t = let h : n ≡ m + 1 = omega arith in ap (λ (d : ℕ). ascii " -" ++ decimal d) h

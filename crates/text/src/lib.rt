@@ -9,6 +9,7 @@ ghost use Rattle.puts.specs.Puts.{Puts};
 pub fn decimal(out: &mut [u8], at: usize, n: u64) -> usize
     ensures { Puts out.old at (decimal n) result out.new }
 {
+    // One digit needs no buffer.
     if n < 10 {
         return puts::byte(out, at, b'0' + (n as u8));
     }
@@ -29,12 +30,13 @@ pub fn part(out: &mut [u8], at: usize, n: u64) -> usize
 pub fn signed_part(out: &mut [u8], at: usize, x: i32) -> usize
     ensures { Puts out.old at (signed_part x) result out.new }
 {
-    let bits = words::bits(x);
-    if bits < 2147483648 {
-        return part(out, at, bits as u64);
+    let n = u64::from(x.unsigned_abs());
+    if x < 0 {
+        let k = puts::bytes(out, at, b" -");
+        decimal(out, k, n)
+    } else {
+        part(out, at, n)
     }
-    let k = puts::bytes(out, at, b" -");
-    decimal(out, k, (u32::MAX - bits) as u64 + 1)
 }
 
 // The end of a line.

@@ -1,5 +1,5 @@
 -- Where a transfer or a block reads, what the code puts is what is written of it under the new numbers.
-use Prim.Native.Nat.{ℕ, suc, ◌+◌, ◌-◌, ◌^◌, ◌≤◌, ◌<◌, min}
+use Prim.Native.Nat.{ℕ, suc, ◌+◌, ◌-◌, ◌^◌, ◌<◌, min}
 use mathlib.Core.Path.{◌≡◌, refl, sym, ap, ◌∙◌}
 use mathlib.Core.List.{List, [], ◌∷◌, ◌++◌, map, append_assoc}
 use native.Mathlib.Nat.{min-eq_left}
@@ -19,6 +19,10 @@ use Rattle.model.proofs.Writing.{law-spawn_call, law-function, HeldTransfer, Hel
 use Rattle.code.specs.Bytes.{byte_at, past}
 use Rattle.code.specs.Code.{run, count_at, list_end, spawn_end, statements_end, nesting_at, head_end, opening_at, code_end}
 use Rattle.code.specs.declared.Opening.{Opening}
+use Rattle.code.specs.declared.Kind.{Kind}
+use Rattle.code.specs.declared.Kind.TheVariants.{Goto, If, Call, Return, Spork, Spoin}
+use Rattle.code.specs.Kinds.{number_of}
+use Rattle.code.proofs.KindLaws.{kind-low, kind-spoin}
 use Rattle.code.proofs.Offsets.{past-in}
 use Rattle.code.proofs.Decoding.{In, Decodes, decodes-list, decodes-arguments, decodes-half, decodes-expression, decodes-head, decodes-code}
 use Rattle.numbering.specs.Renamed as Renamed
@@ -28,6 +32,7 @@ use Rattle.puts.proofs.Laws.{then, same}
 use Rattle.model.proofs.Writing.{bytes-are}
 use Rattle.puts.proofs.Parts.{stretch-is}
 use Rattle.transfers.proofs.Blocks.{transfer-inside}
+use Rattle.tidy.specs.declared.Numbering.{Numbering}
 use Rattle.kept.specs.Kept.{number_in}
 use Rattle.tidy.specs.Writes.{renamed_two, renamed_applied, renamed_if, renamed_call, renamed_kind, names_by}
 use Rattle.tidy.specs.Writes.{PutsTransfer, PutsBlock}
@@ -109,46 +114,50 @@ module _ (N : Names) (s : List ℕ) where
       rw (k.is, m.is, n.is)
 
 -- a kind, and what is put behind it: the transfer under the new numbers
-module _ (s functions blocks spawns : List ℕ) (at kind first : ℕ) {d : List ℕ} {k m : ℕ} {d' : List ℕ} (e : kind ≡ byte_at s at)
-    (f : first ≡ past at 1) (p : Puts d k (kind ∷ []) m d') where
-  kind-put : {r : ℕ} {d'' : List ℕ} → Puts d' m (renamed_kind (names_by functions blocks spawns) kind s first) r d''
-      → PutsTransfer s at (names_by functions blocks spawns) d k r d''
+module _ (s : List ℕ) (numbers : Numbering) (at first : ℕ) {d : List ℕ} {k m byte : ℕ} {d' : List ℕ} (e : byte ≡ byte_at s at)
+    (f : first ≡ past at 1) (p : Puts d k (byte ∷ []) m d') where
+  kind-put : {r : ℕ} {d'' : List ℕ} → Puts d' m (renamed_kind (names_by numbers) byte s first) r d''
+      → PutsTransfer s at (names_by numbers) d k r d''
   kind-put q T l z short =
-      let N = names_by functions blocks spawns in
+      let N = names_by numbers in
       let i : In s at = record { within = omega (arith, transfer-inside s at T l z); short = short } in
       same (then p q) (rw (e, f) (kinds N s at T l i (law-transfer.holds s at T l z) (back law-transfer s at T l z)))
 
-  pub goto-put : {r : ℕ} {d'' : List ℕ} → kind ≡ 0 → Puts d' m (renamed_applied (number_in blocks) s first) r d''
-      → PutsTransfer s at (names_by functions blocks spawns) d k r d''
-  unfolding renamed_kind
-  goto-put z q = kind-put (rw z q)
+  module _ {kind : Kind} (j : number_of kind ≡ min (byte_at s at) 5) where
+    pub goto-put : {r : ℕ} {d'' : List ℕ} → kind ≡ Goto → Puts d' m (renamed_applied (number_in numbers.blocks) s first) r d''
+        → PutsTransfer s at (names_by numbers) d k r d''
+    unfolding renamed_kind
+    goto-put z q = kind-put (rw (e ∙ kind-low j z (omega arith)) q)
 
-  pub if-put : {r : ℕ} {d'' : List ℕ} → kind ≡ 1 → Puts d' m (renamed_if (number_in blocks) s first) r d''
-      → PutsTransfer s at (names_by functions blocks spawns) d k r d''
-  unfolding renamed_kind
-  if-put z q = kind-put (rw z q)
+    pub if-put : {r : ℕ} {d'' : List ℕ} → kind ≡ If → Puts d' m (renamed_if (number_in numbers.blocks) s first) r d''
+        → PutsTransfer s at (names_by numbers) d k r d''
+    unfolding renamed_kind
+    if-put z q = kind-put (rw (e ∙ kind-low j z (omega arith)) q)
 
-  pub call-put : {r : ℕ} {d'' : List ℕ} → kind ≡ 2 → Puts d' m (renamed_call (number_in functions) (number_in blocks) s first) r d''
-      → PutsTransfer s at (names_by functions blocks spawns) d k r d''
-  unfolding renamed_kind
-  call-put z q = kind-put (rw z q)
+    pub call-put : {r : ℕ} {d'' : List ℕ} → kind ≡ Call
+        → Puts d' m (renamed_call (number_in numbers.functions) (number_in numbers.blocks) s first) r d''
+        → PutsTransfer s at (names_by numbers) d k r d''
+    unfolding renamed_kind
+    call-put z q = kind-put (rw (e ∙ kind-low j z (omega arith)) q)
 
-  pub return-put : {end r : ℕ} {d'' : List ℕ} → kind ≡ 3 → end ≡ list_end s first → Puts d' m (stretch s first end) r d''
-      → PutsTransfer s at (names_by functions blocks spawns) d k r d''
-  unfolding renamed_kind
-  return-put z g q = kind-put (rw (z, ← g) q)
+    pub return-put : {end r : ℕ} {d'' : List ℕ} → kind ≡ Return → end ≡ list_end s first → Puts d' m (stretch s first end) r d''
+        → PutsTransfer s at (names_by numbers) d k r d''
+    unfolding renamed_kind
+    return-put z g q = kind-put (rw (e ∙ kind-low j z (omega arith), ← g) q)
 
-  pub spork-put : {r : ℕ} {d'' : List ℕ} → kind ≡ 4 → Puts d' m (renamed_two (number_in blocks) (number_in spawns) s first) r d''
-      → PutsTransfer s at (names_by functions blocks spawns) d k r d''
-  unfolding renamed_kind
-  spork-put z q = kind-put (rw z q)
+    pub spork-put : {r : ℕ} {d'' : List ℕ} → kind ≡ Spork
+        → Puts d' m (renamed_two (number_in numbers.blocks) (number_in numbers.spawns) s first) r d''
+        → PutsTransfer s at (names_by numbers) d k r d''
+    unfolding renamed_kind
+    spork-put z q = kind-put (rw (e ∙ kind-low j z (omega arith)) q)
 
-  pub spoin-put : {r : ℕ} {d'' : List ℕ} → 5 ≤ kind → Puts d' m (renamed_two (number_in blocks) (number_in blocks) s first) r d''
-      → PutsTransfer s at (names_by functions blocks spawns) d k r d''
-  unfolding renamed_kind
-  spoin-put z q =
-      let g : kind ≡ suc (suc (suc (suc (suc (kind - 5))))) = omega arith in
-      kind-put (rw g q)
+    pub spoin-put : {r : ℕ} {d'' : List ℕ} → kind ≡ Spoin
+        → Puts d' m (renamed_two (number_in numbers.blocks) (number_in numbers.blocks) s first) r d''
+        → PutsTransfer s at (names_by numbers) d k r d''
+    unfolding renamed_kind
+    spoin-put z q =
+        let g : byte ≡ suc (suc (suc (suc (suc (byte - 5))))) = omega (arith, kind-spoin j z) in
+        kind-put (rw g q)
 
 -- bytes that stand one after another are read back by the code
 run_is : (s : List ℕ) (at k : ℕ) (xs : List ℕ) → In s at → Between s at k xs → run s at (length xs) ≡ xs

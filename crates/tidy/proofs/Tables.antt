@@ -4,6 +4,7 @@ use mathlib.Core.Path.{◌≡◌, refl, sym, ◌∙◌, ap}
 use mathlib.Core.Bool.{Bool, true, false}
 use mathlib.Core.List.{List, [], ◌∷◌}
 use native.Mathlib.Omega.{arith}
+use Rattle.std.specs.Prelude.{Result, Ok, Err}
 use lib.Dec.{leb}
 use lib.ListN.{length}
 use Rattle.model.specs.Numbers as No
@@ -16,11 +17,10 @@ use Rattle.model.proofs.Guarantees as Guarantees
 use Rattle.model.proofs.Guarantees.{sized-is}
 use Rattle.model.proofs.Accepted.{check-wf}
 use Rattle.model.proofs.Writing.{table-length, inverse}
-use Rattle.answers.specs.declared.Answer as Code
-use Rattle.answers.specs.declared.Answer.TheVariants.{Given, Refused}
+use Rattle.answers.specs.declared.No as Code
 use Rattle.answers.specs.declared.Refusal as Why
 use Rattle.answers.specs.declared.Refusal.TheVariants.{Plain}
-use Rattle.answers.specs.Answers.{answer_of, Writes}
+use Rattle.answers.specs.Answers.{Writes}
 use Rattle.puts.specs.Puts.{Puts}
 use Rattle.puts.proofs.Tables.{table-written}
 use Rattle.places.specs.Marks.{nowhere}
@@ -35,8 +35,8 @@ use Rattle.numbering.specs.Tidy.{kept_functions, tidied}
 use Rattle.numbering.proofs.Answers.{tidy-accepted, tidy-refused}
 use Rattle.numbering.proofs.Closed.{closed}
 use Rattle.numbering.proofs.Shorter.{tidied-shorter}
-use Rattle.kept.specs.Kept.{nothing, Lists, KeepsFunctions}
-use Rattle.answers.specs.declared.Written.TheVariants as written
+use Rattle.kept.specs.declared.Kept.{Kept}
+use Rattle.kept.specs.Kept.{Lists, KeepsFunctions}
 use Rattle.tidy.specs.Tables.{PutsProgram, Fits, PutsTable}
 
 -- the tidy table is no longer than the table, which is short
@@ -47,14 +47,14 @@ tidy-short s P r =
     let l : length (Write.table P) ≡ length s = ap length e in
     (omega (arith, tidied-shorter P, l), omega (arith, tidied-shorter P, holds.short))
 
-module _ (s places transfers functions : List ℕ) (n : ℕ) where
+module _ (s places transfers : List ℕ) (functions : Kept) where
   -- a table has room for its tidy table
-  pub fits_all : {room : ℕ} → length s ≤ room → Fits s places transfers functions n room true
+  pub fits_all : {room : ℕ} → length s ≤ room → Fits s places transfers functions room true
   fits_all {room} h = record { is = λ P r w v C l. sym (le-leb _ room (omega (arith, (tidy-short s P r).0))) }
 
   -- where the functions end, put where there is room for one byte
-  pub fits-counted : {room : ℕ} {d d' : List ℕ} {end : ℕ} → length d ≡ 1 → PutsProgram s places transfers functions n d 5 end d'
-      → Fits s places transfers functions n room (leb end room)
+  pub fits-counted : {room : ℕ} {d d' : List ℕ} {end : ℕ} → length d ≡ 1 → PutsProgram s places transfers functions d 5 end d'
+      → Fits s places transfers functions room (leb end room)
   fits-counted {room} {d} {d'} {end} e u =
       record {
         is = λ P r w v C l.
@@ -64,41 +64,42 @@ module _ (s places transfers functions : List ℕ) (n : ℕ) where
       }
 
   -- the functions, and then the length and the version before them
-  pub table-put : {d d₁ d₂ d₃ : List ℕ} {end k m : ℕ} → PutsProgram s places transfers functions n d 5 end d₁
+  pub table-put : {d d₁ d₂ d₃ : List ℕ} {end k m : ℕ} → PutsProgram s places transfers functions d 5 end d₁
       → Puts d₁ 0 (Write.word (end % 4294967296)) k d₂ → Puts d₂ k (1 ∷ []) m d₃
-      → PutsTable s places transfers functions n d (end % 4294967296) d₃
+      → PutsTable s places transfers functions d (end % 4294967296) d₃
   table-put u p q =
       record {
         is = λ P r w v C l fit short. table-written (tidied P) (u.is P w v C l) p q (tidy-short s P r).1 fit short;
       }
 
 -- an accepted table: its program, with its places and the list of its kept functions
-record Kept (s places transfers functions : List ℕ) (n : ℕ) : Type 0 where
+record Known (s places transfers : List ℕ) (functions : Kept) : Type 0 where
   program : Program
   reads : read s ≡ Answer.given program
   accepted : check s ≡ Answer.given tt
   placed : Places s program places
   transferred : Transfers.Transfers s program transfers
   closed : Closed program
-  lists : Lists functions n (kept_functions program)
+  lists : Lists functions (kept_functions program)
 
-module _ (s before places : List ℕ) (r : Code.Answer) (c : CheckedAs s before places r) (none : before ≡ nowhere) (out : List ℕ) where
-  pub tidy-not : (why : Why.Refusal) → r ≡ Refused why → Writes (Model.tidy s out) (written.Refused why) out
-  tidy-not why e =
-      let q = tidy-refused s out _ (sym (c.answer none) ∙ ap answer_of e) in
-      record { answer = ap (λ (w : Wrote). w.answer) (sym q); after = ap (λ (w : Wrote). w.after) (sym q) }
+module _ (s before places : List ℕ) (none : before ≡ nowhere) (out : List ℕ) where
+  pub tidy-not : {why : Why.Refusal} {q : Result ℕ Why.Refusal} → CheckedAs s before places (Err why) → q ≡ Err why
+      → Writes (Model.tidy s out) q out
+  tidy-not c e =
+      let q = tidy-refused s out _ (sym (c.answer none)) in
+      rw e (record { answer = ap (λ (w : Wrote). w.answer) (sym q); after = ap (λ (w : Wrote). w.after) (sym q) })
 
-  module _ {n : ℕ} {blank transfers empty functions : List ℕ} (e : r ≡ Given) (z : blank ≡ Transfers.nowhere)
-      (f : Finds s places blank transfers) (d : empty ≡ nothing) (k : KeepsFunctions s places transfers empty n functions) where
-    kept : Kept s places transfers functions n
+  module _ (c : CheckedAs s before places (Ok tt)) {blank transfers : List ℕ} {functions : Kept} (z : blank ≡ Transfers.nowhere)
+      (f : Finds s places blank transfers) (k : KeepsFunctions s places transfers functions) where
+    kept : Known s places transfers functions
     kept =
-        let h : check s ≡ Answer.given tt = sym (c.answer none) ∙ ap answer_of e in
+        let h : check s ≡ Answer.given tt = sym (c.answer none) in
         let (P, reads, wf) = check-wf s h in
         let p = left-places s before places P c.placed none reads in
         let C = closed P wf in
         let short : length s ≤ 65535 = omega (arith, (sized-is s _ (Guarantees.reads s P reads).sized).most) in
         let v = f P _ p short z in
-        record { program = P; reads = reads; accepted = h; placed = p; transferred = v; closed = C; lists = k P p v C d }
+        record { program = P; reads = reads; accepted = h; placed = p; transferred = v; closed = C; lists = k P p v C }
 
     abbrev table : List ℕ
     table = Write.table (tidied kept.program)
@@ -106,16 +107,16 @@ module _ (s before places : List ℕ) (r : Code.Answer) (c : CheckedAs s before 
     is-put : Model.tidy s out ≡ put No.room out table
     is-put = tidy-accepted s out kept.program kept.accepted kept.reads
 
-    fits-is : {b : Bool} → Fits s places transfers functions n (length out) b → b ≡ leb (length table) (length out)
+    fits-is : {b : Bool} → Fits s places transfers functions (length out) b → b ≡ leb (length table) (length out)
     fits-is u = u.is kept.program kept.reads kept.placed kept.transferred kept.closed kept.lists
 
-    pub tidy-room : {b : Bool} {why : ℕ} → why ≡ No.room → Fits s places transfers functions n (length out) b → b ≡ false →
-        Writes (Model.tidy s out) (written.Refused (Plain why)) out
+    pub tidy-room : {b : Bool} {why : Code.No} → why.0 ≡ No.room → Fits s places transfers functions (length out) b → b ≡ false →
+        Writes (Model.tidy s out) (Err (Plain why)) out
     tidy-room i u h =
         rw (is-put, put-short No.room out table (leb-false _ _ (sym (fits-is u) ∙ h)), i) (record { answer = refl; after = refl })
 
-    pub tidy-wrote : {b : Bool} {m : ℕ} {out' : List ℕ} → length out < 2 ^ 63 → Fits s places transfers functions n (length out) b
-        → b ≡ true → PutsTable s places transfers functions n out m out' → Writes (Model.tidy s out) (written.Bytes m) out'
+    pub tidy-wrote : {b : Bool} {m : ℕ} {out' : List ℕ} → length out < 2 ^ 63 → Fits s places transfers functions (length out) b
+        → b ≡ true → PutsTable s places transfers functions out m out' → Writes (Model.tidy s out) (Ok m) out'
     tidy-wrote short u h p =
         let fit : length table ≤ length out = leb-true _ _ (sym (fits-is u) ∙ h) in
         let w =

@@ -10,11 +10,12 @@ use Rattle.puts.specs.Puts.{Puts, stretch}
 use Rattle.numbering.specs.Renamed as Renamed
 use Rattle.numbering.specs.Renamed.{Names}
 use Rattle.kept.specs.Kept.{number_in}
+use Rattle.tidy.specs.declared.Numbering.{Numbering}
 
 -- the new numbers that three lists have
-abbrev pub names_by : List ℕ → List ℕ → List ℕ → Names
-names_by functions blocks spawns =
-    record { function = number_in functions; block = number_in blocks; spawn = number_in spawns }
+abbrev pub names_by : Numbering → Names
+names_by numbers =
+    record { function = number_in numbers.functions; block = number_in numbers.blocks; spawn = number_in numbers.spawns }
 
 -- the name at an offset under a new number; two names; a name, and the argument list behind it
 abbrev pub renamed_name : (ℕ → ℕ) → List ℕ → ℕ → List ℕ

@@ -1,5 +1,5 @@
 -- The array while it is filled: the entries below an index are right, and the others stand for none.
-use Prim.Native.Nat.{ℕ, ◌+◌, ◌*◌, ◌/◌, ◌%◌, ◌≤◌, ◌<◌}
+use Prim.Native.Nat.{ℕ, ◌+◌, ◌*◌, ◌%◌, ◌≤◌, ◌<◌}
 use mathlib.Core.Path.{◌≡◌, refl, ◌∙◌, subst}
 use mathlib.Core.Bool.{Bool, true, false}
 use mathlib.Core.Option.{none, some}
@@ -15,8 +15,7 @@ use Rattle.model.specs.Read.{Parser}
 use Rattle.model.specs.Pool.{block_in}
 use Rattle.model.proofs.Facts.{ltb-true, ltb-false}
 use Rattle.places.specs.Layout as Layout
-use Rattle.places.specs.declared.Place.{Place}
-use Rattle.places.specs.declared.Place.TheVariants.{At, Nowhere}
+use Rattle.std.specs.Prelude.{Some, None}
 use Rattle.places.specs.Places.{PlacesBy, Entry, Reads, FindsCode}
 use Rattle.places.proofs.Lookups.{code-past, code-none}
 use Rattle.code.specs.Bytes.{byte_at, past}
@@ -63,59 +62,66 @@ filling-none s places transfers P v p l e =
       others = λ j h k. rw e (get_or-replicate len j Layout.absent 0 k);
     }
 
-module _ (s places transfers₀ transfers : List ℕ) (i : ℕ) (t : Filling s places transfers₀ transfers i) where
-  -- all are found
-  pub filling-end : len ≤ i → Finds s places transfers₀ transfers
-  filling-end h P v p l e =
+-- all are found
+pub filling-end : (s places transfers₀ transfers : List ℕ) (f : ℕ) → Filling s places transfers₀ transfers (Layout.blocks * f)
+    → Layout.functions ≤ f → Finds s places transfers₀ transfers
+filling-end s places transfers₀ transfers g t h P v p l e =
+    record {
+      entries = λ f b m n. (t P v p l e).found f b m n (omega arith);
+      few_functions = λ f b m. code-none places f b m s P v p;
+      few_blocks = λ f b m. code-past places f b m s P v p;
+    }
+
+-- the same array, up to an equal index
+pub filling-same : (s places transfers₀ transfers : List ℕ) {i j : ℕ} → Filling s places transfers₀ transfers i → i ≡ j
+    → Filling s places transfers₀ transfers j
+filling-same s places transfers₀ transfers t e = subst (Filling s places transfers₀ transfers) e t
+
+module _ (s places transfers₀ transfers : List ℕ) (f b : ℕ) (inside : b < Layout.blocks)
+    (t : Filling s places transfers₀ transfers (index f b)) where
+  -- a block that is not there: so are those behind it in its function
+  pub filling_skip : FindsCode places f b None → Filling s places transfers₀ transfers (Layout.blocks * (f + 1))
+  filling_skip find P v p l e =
       record {
-        entries = λ f b m n. (t P v p l e).found f b m n (omega arith);
-        few_functions = λ f b m. code-none places f b m s P v p;
-        few_blocks = λ f b m. code-past places f b m s P v p;
+        sized = (t P v p l e).sized;
+        found = λ g c m n h. go g c m n h (ltb (index g c) (index f b)) refl;
+        others = λ j h k. (t P v p l e).others j (omega arith) k;
       }
+    where
+      go : (g c : ℕ) → g < Layout.functions → c < Layout.blocks → index g c < Layout.blocks * (f + 1)
+          → (d : Bool) → ltb (index g c) (index f b) ≡ d → EntryOf s P g c (get_or transfers (index g c) 0)
+      go g c m n h true q = (t P v p l e).found g c m n (ltb-true (index g c) (index f b) q)
+      go g c m n h false q =
+          let k : index f b ≤ index g c = ltb-false (index g c) (index f b) q in
+          let zf : f ≡ g = omega arith in
+          entry-none s P g c _ (no_more (get_elem? P g) b c (omega arith) (rw (← zf) (find s P v p)))
+          ((t P v p l e).others (index g c) k (omega arith))
 
-  module _ {r : Place} (find : FindsCode places (i / Layout.blocks) (i % Layout.blocks) r) where
-    -- a block that is not there: so are those behind it in its function
-    pub filling_skip : r ≡ Nowhere → Filling s places transfers₀ transfers (Layout.blocks * (i / Layout.blocks + 1))
-    filling_skip z P v p l e =
-        record {
-          sized = (t P v p l e).sized;
-          found = λ f b m n h. go f b m n h (ltb (index f b) i) refl;
-          others = λ j h k. (t P v p l e).others j (omega arith) k;
-        }
-      where
-        go : (f b : ℕ) → f < Layout.functions → b < Layout.blocks → index f b < Layout.blocks * (i / Layout.blocks + 1)
-            → (c : Bool) → ltb (index f b) i ≡ c → EntryOf s P f b (get_or transfers (index f b) 0)
-        go f b m n h true q = (t P v p l e).found f b m n (ltb-true (index f b) i q)
-        go f b m n h false q =
-            let k : i ≤ index f b = ltb-false (index f b) i q in
-            let zf : i / Layout.blocks ≡ f = omega arith in
-            let g = subst (FindsCode places (i / Layout.blocks) (i % Layout.blocks)) z find s P v p in
-            entry-none s P f b _
-            (no_more (get_elem? P f) (i % Layout.blocks) b (omega arith) (rw (← zf) g))
-            ((t P v p l e).others (index f b) k (omega arith))
-
-    -- the transfer of the block there
-    pub filling-next : {at end : ℕ} → i < len → r ≡ At at → end ≡ statements_end s (past at 1) (byte_at s at)
-        → Filling s places transfers₀ (set transfers i (end % offsets)) (i + 1)
-    unfolding code_end
-    filling-next {at} {end} h z d P v p l e =
-        record {
-          sized = length-set transfers i (end % offsets) ∙ (t P v p l e).sized;
-          found = λ f b m n k. go f b m n k (ltb (index f b) i) refl;
-          others = λ j k m. get_or-set_other transfers i j (end % offsets) 0 (λ w. omega arith) ∙ (t P v p l e).others j (omega arith) m;
-        }
-      where
-        go : (f b : ℕ) → f < Layout.functions → b < Layout.blocks → index f b < i + 1
-            → (c : Bool) → ltb (index f b) i ≡ c → EntryOf s P f b (get_or (set transfers i (end % offsets)) (index f b) 0)
-        go f b m n h true q =
-            let k : index f b < i = ltb-true (index f b) i q in
-            rw (get_or-set_other transfers i (index f b) (end % offsets) 0 (λ w. omega arith)) ((t P v p l e).found f b m n k)
-        go f b m n h false q =
-            let k : index f b ≡ i = omega (arith, ltb-false (index f b) i q) in
-            let zf : i / Layout.blocks ≡ f = omega arith in
-            let zb : i % Layout.blocks ≡ b = omega arith in
-            let (B, g, c) = subst (FindsCode places (i / Layout.blocks) (i % Layout.blocks)) z find s P v p in
-            let (inside, reads) = transfer-reads v s at B p.short c in
-            let w : end % offsets ≡ code_end s at = mod-eq_of_lt (omega arith) ∙ d in
-            rw (k, get_or-set_same transfers i (end % offsets) 0 (omega (arith, (t P v p l e).sized)), w)
-            (entry-there s P f b B (code_end s at) (rw (← zf, ← zb) g) (omega arith) reads)
+  -- the transfer of the block there
+  pub filling-next : {at end : ℕ} → f < Layout.functions → FindsCode places f b (Some at)
+      → end ≡ statements_end s (past at 1) (byte_at s at)
+      → Filling s places transfers₀ (set transfers (index f b) (end % offsets)) (Layout.blocks * f + (b + 1))
+  unfolding code_end
+  filling-next {at} {end} few find d P v p l e =
+      record {
+        sized = length-set transfers (index f b) (end % offsets) ∙ (t P v p l e).sized;
+        found = λ g c m n k. go g c m n k (ltb (index g c) (index f b)) refl;
+        others = λ j h m.
+            get_or-set_other transfers (index f b) j (end % offsets) 0 (λ w. omega arith) ∙ (t P v p l e).others j (omega arith) m;
+      }
+    where
+      go : (g c : ℕ) → g < Layout.functions → c < Layout.blocks → index g c < Layout.blocks * f + (b + 1)
+          → (u : Bool) → ltb (index g c) (index f b) ≡ u
+          → EntryOf s P g c (get_or (set transfers (index f b) (end % offsets)) (index g c) 0)
+      go g c m n h true q =
+          let k : index g c < index f b = ltb-true (index g c) (index f b) q in
+          rw (get_or-set_other transfers (index f b) (index g c) (end % offsets) 0 (λ w. omega arith)) ((t P v p l e).found g c m n k)
+      go g c m n h false q =
+          let k : index f b ≤ index g c = ltb-false (index g c) (index f b) q in
+          let zf : f ≡ g = omega arith in
+          let zb : b ≡ c = omega arith in
+          let (B, i, r) = find s P v p in
+          let (within, reads) = transfer-reads v s at B p.short r in
+          let w : end % offsets ≡ code_end s at = mod-eq_of_lt (omega arith) ∙ d in
+          rw (← zf, ← zb, get_or-set_same transfers (index f b) (end % offsets) 0 (omega (arith, (t P v p l e).sized)), w)
+          (entry-there s P f b B (code_end s at) i (omega arith) reads)

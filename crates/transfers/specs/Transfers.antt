@@ -7,8 +7,7 @@ use Rattle.model.specs.Read as Read
 use Rattle.model.specs.Read.{Parser}
 use Rattle.model.specs.Pool.{block_in}
 use Rattle.places.specs.Layout as Layout
-use Rattle.places.specs.Places.{PlacesBy, Entry, Found}
-use Rattle.places.specs.declared.Place.{Place}
+use Rattle.places.specs.Places.{Place, PlacesBy, Entry, Found}
 
 -- the layout: block b of function f behind those of the functions before
 abbrev pub index : ℕ → ℕ → ℕ

@@ -7,7 +7,7 @@ ghost use Rattle.code.specs.Bytes.{byte_at, past};
 ghost use Rattle.code.specs.Code.{statements_end};
 ghost use Rattle.transfers.specs.Transfers.{nowhere, Finds, FindsTransfer};
 
-use places::{Layout, Place, Places};
+use places::{Layout, Places};
 
 // The array's record: its length, how many offsets an entry holds, and the entry of a block that is not there.
 #[derive(Clone, Copy)]
@@ -24,7 +24,8 @@ impl Ends {
 // The offset of each block's transfer, function by function.
 pub type Transfers = [u16; Ends::LEN];
 
-// An array with no transfers.
+// An array with no transfers. It is one array and no array of arrays, which is no plainer: `index` of the specs has the places in it
+// one behind the other.
 pub fn none() -> Transfers
     ensures { result ≡ nowhere }
 {
@@ -42,28 +43,23 @@ pub fn behind(s: &[u8], at: usize) -> usize
 pub fn find(s: &[u8], places: &Places, transfers: &mut Transfers)
     ensures { Finds s.now places.now transfers.old transfers.new }
 {
-    let mut i = 0;
-    while i < Ends::LEN {
-        match places::code(places, i / Layout::BLOCKS, i % Layout::BLOCKS) {
-            Place::Nowhere => {
-                i = Layout::BLOCKS * (i / Layout::BLOCKS + 1);
-            }
-            Place::At(at) => {
-                transfers[i] = (behind(s, at) % Ends::OFFSETS) as u16;
-                i += 1;
-            }
+    for f in 0..Layout::FUNCTIONS {
+        for b in 0..Layout::BLOCKS {
+            let Some(at) = places::code(places, f, b) else {
+                break;
+            };
+            transfers[Layout::BLOCKS * f + b] = (behind(s, at) % Ends::OFFSETS) as u16;
         }
     }
 }
 
 // The transfer of block b of function f.
-pub fn transfer(transfers: &Transfers, f: usize, b: usize) -> Place
+pub fn transfer(transfers: &Transfers, f: usize, b: usize) -> Option<usize>
     ensures { FindsTransfer transfers.now f b result }
 {
-    if f < Layout::FUNCTIONS {
-        if b < Layout::BLOCKS {
-            return places::entry(transfers[Layout::BLOCKS * f + b]);
-        }
+    if f < Layout::FUNCTIONS && b < Layout::BLOCKS {
+        places::entry(transfers[Layout::BLOCKS * f + b])
+    } else {
+        None
     }
-    Place::Nowhere
 }

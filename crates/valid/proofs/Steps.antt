@@ -8,35 +8,34 @@ use native.Mathlib.Numerals.{add-one}
 use lib.Bits.{bit_or, or_add_and, and_le_r}
 use lib.Dec.{eqb}
 use lib.IntN.{ℤ, pos, negsuc, nat_abs}
-use lib.Signed.{lt_z}
 use lib.ListN.{length, get_or, drop, drop_of_length-le}
 use lib.Seq.{drop-cons}
 use mir.Syntax.{w32}
 use mir.Val.{to_z, of_z, SFits}
 use mir.Facts.{to_z-of_z}
+use Rattle.std.specs.Prelude.{Result, Ok, Err}
+use Rattle.std.specs.Int.{FitsUnsignedBits}
+use Rattle.std.specs.Result.{OkIff, result_unwrap_or}
 use Rattle.model.specs.Lists.{all}
 use Rattle.model.specs.Sets.{has}
 use Rattle.model.specs.Pool.{blank}
-use Rattle.model.proofs.Facts.{true-false, and-true, ltb-true, ne_eqb}
+use Rattle.model.proofs.Facts.{and-true, ne_eqb}
 use Rattle.words.proofs.Signs.{zero_test}
 use Rattle.valid.specs.Judged.{beyond, plain, is_zero, IsNumber}
 
 -- a word as a number
-pub below-zero : (w : ℤ) → SFits w32 w → lt_z (to_z w32 (of_z w32 w)) (pos 0) ≡ true → IsNumber w beyond
+pub number-read : {E : Type 0} (w : ℤ) (r : Result ℕ E) {n : ℕ} → SFits w32 w
+    → OkIff r (FitsUnsignedBits 64 (to_z w32 (of_z w32 w))) (nat_abs (to_z w32 (of_z w32 w))) → n ≡ result_unwrap_or r beyond
+    → IsNumber w n
 unfolding plain
-below-zero w f t = go w (rw (to_z-of_z f) at t)
+number-read {E} w r {n} f h e = go w r f (rw (to_z-of_z f) at h) e
   where
-    go : (w : ℤ) → lt_z w (pos 0) ≡ true → IsNumber w beyond
-    go (pos n) t = absurd (let h : n < 0 = ltb-true n 0 t in omega arith)
-    go (negsuc n) t = record { is = refl; small = omega arith }
-
-pub not-below : (w : ℤ) → SFits w32 w → lt_z (to_z w32 (of_z w32 w)) (pos 0) ≡ false → IsNumber w (nat_abs (to_z w32 (of_z w32 w)))
-unfolding plain
-not-below w f t = rw (to_z-of_z f) (go w f (rw (to_z-of_z f) at t))
-  where
-    go : (w : ℤ) → SFits w32 w → lt_z w (pos 0) ≡ false → IsNumber w (nat_abs w)
-    go (pos n) f t = record { is = refl; small = omega (arith, f.sfits) }
-    go (negsuc n) f t = true-false true refl t
+    go : (w : ℤ) (r : Result ℕ E) → SFits w32 w → OkIff r (FitsUnsignedBits 64 w) (nat_abs w) → n ≡ result_unwrap_or r beyond
+        → IsNumber w n
+    go (pos m) (Ok x) f h e = record { is = e ∙ h.1; small = omega (arith, f.sfits, e, h.1) }
+    go (pos m) (Err x) f h e = absurd (h (omega (arith, f.sfits)))
+    go (negsuc m) (Ok x) f h e = absurd h.0
+    go (negsuc m) (Err x) f h e = record { is = e; small = omega (arith, e) }
 
 and_assoc : (a b c : Bool) → (a && (b && c)) ≡ ((a && b) && c)
 and_assoc true b c = refl

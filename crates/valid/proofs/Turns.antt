@@ -17,8 +17,7 @@ use Rattle.model.specs.Pool.{frame_count_at}
 use Rattle.model.specs.Pool.{work_at, tokens_at, frames_at, thread_words, thread_count_at, threads_at, pool_words, frames, runs, thread_of}
 use Rattle.model.specs.Pool.{children, are_pool}
 use Rattle.model.proofs.Facts.{true-false, lt-ltb, le-ltb, leb-true, le-leb, and_left, and_right, both-and, not-true, not-false}
-use Rattle.valid.specs.declared.Children.{Children}
-use Rattle.valid.specs.declared.Children.TheVariants.{Are, Bad}
+use Rattle.std.specs.Prelude.{Option, Some, None}
 use Rattle.valid.specs.Judged.{beyond, num, is_zero, good_frame, good_thread, lasts, fine, promotions, good_purse, forest, follows}
 use Rattle.valid.specs.Judged.{Answers, Few}
 use Rattle.valid.proofs.Bools.{same_test, fails}
@@ -104,7 +103,7 @@ one_more ws n left sum p some h m =
 pub frames-end : (P : Program) (ws : List ℤ) (n left sum : ℕ) (newest free : Bool) → left ≤ 0
     → fine P true true (lasts frame_words n ws) ≡ fine P newest free (lasts frame_words left ws)
     → promotions (lasts frame_words n ws) ≡ sum + promotions (lasts frame_words left ws)
-    → Answers (fine P true true (lasts frame_words n ws)) (promotions (lasts frame_words n ws)) (Are sum)
+    → Answers (fine P true true (lasts frame_words n ws)) (promotions (lasts frame_words n ws)) (Some sum)
 unfolding lasts fine promotions
 frames-end P ws n zero sum newest free l h e = (h, omega arith)
 frames-end P ws n (suc left) sum newest free l h e = absurd (omega arith)
@@ -131,10 +130,10 @@ module _ (P : Program) (t : List ℤ) (l : length t ≡ thread_words) where
     not_behind b = not-thread (λ h. true-false r (zeros-are ∙ rw e h.behind) (not-true r b))
 
     -- the frames' words, as they are looked at
-    abbrev Told : List ℤ → Children → Type 0
+    abbrev Told : List ℤ → Option ℕ → Type 0
     Told ws a = Answers (fine P true true (lasts frame_words n ws)) (promotions (lasts frame_words n ws)) a
 
-    pub thread-answer : (a : Children) → (n ≡ 0 → ⊥) → n ≤ most_frames → (q : Bool) → q ≡ good_purse t → not q ≡ false → not r ≡ false
+    pub thread-answer : (a : Option ℕ) → (n ≡ 0 → ⊥) → n ≤ most_frames → (q : Bool) → q ≡ good_purse t → not q ≡ false → not r ≡ false
         → Told (piece frames_at thread_words t) a
         → Answers (good_thread P t) (children (frames (thread_of t))) a
     thread-answer a some few q u v b h = go a (subst (λ (q : List ℤ). Told q a) (to_end frames_at thread_words t l) h)
@@ -142,8 +141,8 @@ module _ (P : Program) (t : List ℤ) (l : length t ≡ thread_words) where
         purse : good_purse t ≡ true
         purse = sym u ∙ not-false q v
 
-        go : (a : Children) → Told (drop frames_at t) a → Answers (good_thread P t) (children (frames (thread_of t))) a
-        go (Are m) g =
+        go : (a : Option ℕ) → Told (drop frames_at t) a → Answers (good_thread P t) (children (frames (thread_of t))) a
+        go (Some m) g =
             let tests : ThreadTests P t =
             record {
               some = omega arith;
@@ -154,16 +153,16 @@ module _ (P : Program) (t : List ℤ) (l : length t ≡ thread_words) where
               tokens = leb-true (num t tokens_at) most_tokens (and_right (leb (num t work_at) most_work) _ purse);
             } in
             (tests-good-thread P t l tests, g.1 ∙ rw e (child-count P t l tests))
-        go Bad g = not-thread (λ h. true-false (fine P true true (lasts frame_words n (drop frames_at t))) (rw e h.frames) g)
+        go None g = not-thread (λ h. true-false (fine P true true (lasts frame_words n (drop frames_at t))) (rw e h.frames) g)
 
 -- what an answer tells
-pub few-are : {m : ℕ} (r : Children) → r ≡ Are m → Few r → m ≤ most_frames * beyond
+pub few-are : {m : ℕ} (r : Option ℕ) → r ≡ Some m → Few r → m ≤ most_frames * beyond
 few-are r e h = subst Few e h
 
-pub are-answers : (b : Bool) (n m : ℕ) (r : Children) → r ≡ Are m → Answers b n r → (b ≡ true) × (m ≡ n)
+pub are-answers : (b : Bool) (n m : ℕ) (r : Option ℕ) → r ≡ Some m → Answers b n r → (b ≡ true) × (m ≡ n)
 are-answers b n m r e h = subst (Answers b n) e h
 
-pub bad-answers : (b : Bool) (n : ℕ) (r : Children) → r ≡ Bad → Answers b n r → b ≡ false
+pub bad-answers : (b : Bool) (n : ℕ) (r : Option ℕ) → r ≡ None → Answers b n r → b ≡ false
 bad-answers b n r e h = subst (Answers b n) e h
 
 -- threads, from thread i on
@@ -179,9 +178,6 @@ runs-goes size n i ws h =
 -- d trees are to come from thread i on
 abbrev pub from : Program → List ℤ → ℕ → ℕ → ℕ → Bool
 from P ws n i d = forest P d (runs thread_words (n - i) (drop (thread_words * i) ws))
-
-pub trees-begin : (P : Program) (ws : List ℤ) (n : ℕ) → forest P 1 (runs thread_words n ws) ≡ from P ws n 0 1
-trees-begin P ws n = let e : n - 0 ≡ n = omega arith in rw e
 
 module _ (P : Program) (ws : List ℤ) (n i d : ℕ) (h : forest P 1 (runs thread_words n ws) ≡ from P ws n i d) where
   abbrev thread : List ℤ

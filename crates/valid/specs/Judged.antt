@@ -1,5 +1,6 @@
 -- What is looked at to judge a pool's words (13), word by word, and the contracts of the functions that look.
 use Rattle.std.specs.Prelude.{ℕ, zero, suc, ◌+◌, ◌*◌, ◌-◌, ◌≤◌, ◌≡◌, Bool, true, false, ◌&&◌, ◌||◌, List, [], ◌∷◌, eqb, leb, ltb, ℤ, pos, negsuc, length, get_or, take, drop}
+use Rattle.std.specs.Prelude.{Option as Optional, Some, None}
 use Rattle.std.proofs.Math.Option.{Option, none, some}
 use Rattle.std.proofs.Math.ListN.{get_elem?}
 use Rattle.model.specs.Lists.{all}
@@ -9,8 +10,6 @@ use Rattle.model.specs.Pool.{most_frames, most_work, most_tokens, done_at, opene
 use Rattle.model.specs.Pool.{frames, runs, words_of_frame}
 use Rattle.model.specs.Pool.{words_of_thread, frame_of, thread_of, same_words, block_in, is_frame, is_thread, children, are_pool}
 use Rattle.places.specs.Places.{spawn_in, Places}
-use Rattle.valid.specs.declared.Children.{Children}
-use Rattle.valid.specs.declared.Children.TheVariants.{Are, Bad}
 
 -- a word as a number: a negative one is above every limit
 abbrev pub beyond : ℕ
@@ -97,20 +96,20 @@ abbrev pub follows : Bool → Bool → List ℤ → Bool
 follows newest free w = (newest || eqb (num w done_at) 0) && (free || eqb (num w promoted_at) (num w opened_at))
 
 -- the answer to a test, with a count where it holds
-abbrev pub Answers : Bool → ℕ → Children → Type 0
-Answers b n (Are m) = (b ≡ true) × (m ≡ n)
-Answers b n Bad = b ≡ false
+abbrev pub Answers : Bool → ℕ → Optional ℕ → Type 0
+Answers b n (Some m) = (b ≡ true) × (m ≡ n)
+Answers b n None = b ≡ false
 
 -- a count that is far from too large to add up
-abbrev pub Few : Children → Type 0
-Few (Are m) = m ≤ most_frames * beyond
-Few Bad = Unit {0}
+abbrev pub Few : Optional ℕ → Type 0
+Few (Some m) = m ≤ most_frames * beyond
+Few None = Unit {0}
 
-abbrev pub JudgesFrames : List ℕ → List ℕ → List ℤ → ℕ → Children → Type 0
+abbrev pub JudgesFrames : List ℕ → List ℕ → List ℤ → ℕ → Optional ℕ → Type 0
 JudgesFrames s places ws n r =
     Few r × ((P : Program) → Places s P places → Answers (fine P true true (lasts frame_words n ws)) (promotions (lasts frame_words n ws)) r)
 
-abbrev pub JudgesThread : List ℕ → List ℕ → List ℤ → Children → Type 0
+abbrev pub JudgesThread : List ℕ → List ℕ → List ℤ → Optional ℕ → Type 0
 JudgesThread s places t r = Few r × ((P : Program) → Places s P places → Answers (good_thread P t) (children (frames (thread_of t))) r)
 
 abbrev pub JudgesTrees : List ℕ → List ℕ → List ℤ → ℕ → Bool → Type 0

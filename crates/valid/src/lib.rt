@@ -7,48 +7,36 @@ ghost use Rattle.model.specs.Pool.{blank, temporaries, most_frames, most_threads
 ghost use Rattle.valid.specs.Judged.{is_zero, IsNumber, JudgesPlace, JudgesCalls, follows, JudgesFrame, JudgesFrames, good_purse};
 ghost use Rattle.valid.specs.Judged.{JudgesThread, JudgesTrees, JudgesPool};
 
-use places::{Place, Places};
+use places::Places;
 use pool::Pool;
-
-// How many children a thread has, or that its words are no thread.
-#[derive(Clone, Copy)]
-pub enum Children {
-    Are(usize),
-    Bad,
-}
 
 // Word i as a number. A negative word is above every limit.
 fn number(ws: &[i32], i: usize) -> usize
     requires { i < length ws.now }
     ensures { IsNumber (get_or ws.now i (pos 0)) result }
 {
-    let w = ws[i];
-    if w < 0 { 2147483648 } else { w as usize }
+    usize::try_from(ws[i]).unwrap_or(2147483648)
 }
 
-// Are they all 0? Their bits are put together, with no early end, so that many are looked at at once.
+// Are they all 0? Their bits are put together, with no early end, so that many are looked at at once: `all` takes five times as long.
 fn zeros(ws: &[i32]) -> bool
     ensures { result ≡ all is_zero ws.now }
 {
     let mut bits: u32 = 0;
-    let mut i = 0;
-    while i < ws.len() {
-        bits = bits | words::bits(ws[i]);
-        i += 1;
+    for w in ws {
+        bits |= words::bits(*w);
     }
     bits == 0
 }
 
-// Are the values of the unbound temporaries 0?
+// Are the values of the unbound temporaries 0? Here too there is no early end.
 fn values(bound: usize, ws: &[i32]) -> bool
     requires { length ws.now ≡ temporaries }
     ensures { result ≡ blank bound 0 ws.now }
 {
     let mut fine = true;
-    let mut i = 0;
-    while i < Pool::TEMPORARIES {
-        fine = fine & (((bound >> i) % 2 == 1) | (ws[i] == 0));
-        i += 1;
+    for i in 0..Pool::TEMPORARIES {
+        fine &= ((bound >> i) % 2 == 1) | (ws[i] == 0);
     }
     fine
 }
@@ -58,8 +46,8 @@ fn place(s: &[u8], places: &Places, f: usize, b: usize, done: usize) -> bool
     ensures { JudgesPlace s.now places.now f b done result }
 {
     match places::code(places, f, b) {
-        Place::At(at) => done <= code::byte(s, at) as usize,
-        Place::Nowhere => false,
+        Some(at) => done <= code::byte(s, at) as usize,
+        None => false,
     }
 }
 
@@ -67,13 +55,10 @@ fn place(s: &[u8], places: &Places, f: usize, b: usize, done: usize) -> bool
 fn calls(places: &Places, f: usize, ws: &[i32]) -> bool
     ensures { JudgesCalls places.now f ws.now result }
 {
-    let mut i = 0;
-    while i < ws.len() {
-        match places::spawn(places, f, number(ws, i)) {
-            Place::At(_) => {}
-            Place::Nowhere => return false,
-        }
-        i += 1;
+    for i in 0..ws.len() {
+        let Some(_) = places::spawn(places, f, number(ws, i)) else {
+            return false;
+        };
     }
     true
 }
@@ -123,32 +108,31 @@ fn follow(w: &[i32], newest: bool, free: bool) -> bool
         & (free | (number(w, Pool::PROMOTED_AT) == number(w, Pool::OPENED_AT)))
 }
 
-// The first n frames of a thread, the newest, which is the last, first. `free`: no newer frame has a promoted call.
-fn frames(s: &[u8], places: &Places, ws: &[i32], n: usize) -> Children
+// How many children the first n frames of a thread have, if they are frames: the newest, which is the last, first. `free`: no newer
+// frame has a promoted call.
+fn frames(s: &[u8], places: &Places, ws: &[i32], n: usize) -> Option<usize>
     requires { (length ws.now ≡ most_frames * frame_words) × (n ≤ most_frames) }
     ensures { JudgesFrames s.now places.now ws.now n result }
 {
-    let mut left = n;
     let mut newest = true;
     let mut free = true;
     let mut sum: usize = 0;
-    while 0 < left {
-        left -= 1;
+    for left in (0..n).rev() {
         let at = Pool::FRAME_WORDS * left;
         let end = at + Pool::FRAME_WORDS;
         let w = &ws[at..end];
         if !frame(s, places, w) {
-            return Children::Bad;
+            return None;
         }
         if !follow(w, newest, free) {
-            return Children::Bad;
+            return None;
         }
         let promoted = number(w, Pool::PROMOTED_AT);
         newest = false;
-        free = free & (promoted == 0);
+        free &= promoted == 0;
         sum += promoted;
     }
-    Children::Are(sum)
+    Some(sum)
 }
 
 // Are a thread's work and tokens within their limits?
@@ -159,24 +143,24 @@ fn purse(t: &[i32]) -> bool
     (number(t, Pool::WORK_AT) <= Pool::WORK) & (number(t, Pool::TOKENS_AT) <= Pool::TOKENS)
 }
 
-// Are the words a thread of the table?
-fn thread(s: &[u8], places: &Places, t: &[i32]) -> Children
+// How many children a thread has, if its words are one of the table.
+fn thread(s: &[u8], places: &Places, t: &[i32]) -> Option<usize>
     requires { length t.now ≡ thread_words }
     ensures { JudgesThread s.now places.now t.now result }
 {
     let n = number(t, Pool::FRAME_COUNT_AT);
     if n == 0 {
-        return Children::Bad;
+        return None;
     }
     if Pool::FRAMES < n {
-        return Children::Bad;
+        return None;
     }
     if !purse(t) {
-        return Children::Bad;
+        return None;
     }
     let k = Pool::FRAMES_AT + Pool::FRAME_WORDS * n;
     if !zeros(&t[k..Pool::THREAD_WORDS]) {
-        return Children::Bad;
+        return None;
     }
     frames(s, places, &t[Pool::FRAMES_AT..Pool::THREAD_WORDS], n)
 }
@@ -186,20 +170,17 @@ fn trees(s: &[u8], places: &Places, ws: &[i32], n: usize) -> bool
     requires { (length ws.now ≡ most_threads * thread_words) × (n ≤ most_threads) }
     ensures { JudgesTrees s.now places.now ws.now n result }
 {
-    let mut i = 0;
     let mut demands: usize = 1;
-    while i < n {
+    for i in 0..n {
         if demands < 1 {
             return false;
         }
         let at = Pool::THREAD_WORDS * i;
         let end = at + Pool::THREAD_WORDS;
-        let m = match thread(s, places, &ws[at..end]) {
-            Children::Are(m) => m,
-            Children::Bad => return false,
+        let Some(m) = thread(s, places, &ws[at..end]) else {
+            return false;
         };
         demands = m + (demands - 1);
-        i += 1;
     }
     demands == 0
 }

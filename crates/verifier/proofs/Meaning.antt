@@ -10,19 +10,18 @@ use Rattle.model.specs.Calls as Calls
 use Rattle.model.specs.Calls.{read}
 use Rattle.model.proofs.Facts.{refused-given}
 use Rattle.model.proofs.Accepted.{check-wf, wf-check}
-use Rattle.answers.specs.declared.Answer as Code
-use Rattle.answers.specs.declared.Answer.TheVariants.{Given, Refused}
+use Rattle.std.specs.Prelude.{Ok, Err}
 use Rattle.answers.specs.declared.Refusal as Why
 use Rattle.answers.specs.Answers.{refusal_of, answer_of}
 use Rattle.places.specs.Marks.{nowhere}
 use Rattle.table.specs.Reading.{ReadAs}
 use Rattle.table.proofs.Answered.{left-places}
-use Rattle.verifier.specs.Verdicts.{Judges}
+use Rattle.verifier.specs.Verdicts.{Judgement, Judges}
 use Rattle.verifier.specs.Means.{Means, CheckedAs}
 
 -- what reading answered decides
-module _ (s before places : List ℕ) (r : Code.Answer) (h : ReadAs s before places r) where
-  pub check-refused : (x : Why.Refusal) → r ≡ Refused x → CheckedAs s before places (Refused x)
+module _ (s before places : List ℕ) (r : Judgement) (h : ReadAs s before places r) where
+  pub check-refused : (x : Why.Refusal) → r ≡ Err x → CheckedAs s before places (Err x)
   unfolding Calls.check Answers.with outcome
   check-refused x z = record { answer = λ o. go (read s) (sym (ap answer_of z) ∙ h.answer); placed = h.placed }
     where
@@ -30,7 +29,7 @@ module _ (s before places : List ℕ) (r : Code.Answer) (h : ReadAs s before pla
       go (Answer.given P) e = refused-given e
       go (Answer.refused y) e = e
 
-  pub check-judged : (j : Code.Answer) → r ≡ Given → Judges s places j → CheckedAs s before places j
+  pub check-judged : (j : Judgement) → r ≡ Ok tt → Judges s places j → CheckedAs s before places j
   unfolding Calls.check Answers.with outcome
   check-judged j z q =
       record { answer = λ none. go none (read s) refl (sym (ap answer_of z) ∙ h.answer); placed = h.placed }
@@ -40,12 +39,12 @@ module _ (s before places : List ℕ) (r : Code.Answer) (h : ReadAs s before pla
       go none (Answer.refused x) is e = refused-given (sym e)
 
 -- the answer is accepted where the case is
-only : (r : Code.Answer) → answer_of r ≡ Answer.given tt → r ≡ Given
-only Given e = refl
-only (Refused x) e = refused-given e
+only : (r : Judgement) → answer_of r ≡ Answer.given tt → r ≡ Ok tt
+only (Ok _) e = refl
+only (Err x) e = refused-given e
 
 -- the law of `check`: for every table s and its answer r
-pub means : (s : List ℕ) (r : Code.Answer) → answer_of r ≡ Calls.check s → Means s r
+pub means : (s : List ℕ) (r : Judgement) → answer_of r ≡ Calls.check s → Means s r
 unfolding Calls.check Answers.with judge
 means s r e =
     record {

@@ -2,6 +2,7 @@
 use Prim.Native.Nat.{ℕ, ◌+◌, ◌*◌, ◌-◌, ◌≤◌, ◌<◌, ◌^◌, ◌%◌}
 use mathlib.Core.Path.{◌≡◌, refl, sym, ◌∙◌, ap}
 use mathlib.Core.Bool.{Bool, true, false, ◌&&◌}
+use mathlib.Core.Logic.{◌⊎◌, inl, inr}
 use mathlib.Core.Option.{Option, none, some}
 use mathlib.Core.List.{List, [], ◌∷◌, ◌++◌}
 use native.Mathlib.Omega.{arith}
@@ -18,38 +19,28 @@ use Rattle.model.specs.Check as Check
 use Rattle.model.specs.Check.{Placed, first_fault, nowhere}
 use Rattle.model.specs.Limits.{InFunction, InSpawn, InBlock}
 use Rattle.model.proofs.Facts.{eq-eqb, ne_eqb, each_at, below_at, past-at, drop-some, drop-none}
-use Rattle.places.specs.declared.Place.{Place}
-use Rattle.places.specs.declared.Place.TheVariants.{At, Nowhere}
-use Rattle.places.specs.Places.{Places, FindsFunction, FindsBlock, FindsSpawn}
+use Rattle.std.specs.Prelude.{Some, None, Ok, Err}
+use Rattle.answers.specs.declared.No as Number
+use Rattle.places.specs.Places.{Place, Places, FindsFunction, FindsBlock, FindsSpawn}
 use Rattle.code.specs.Bytes.{byte_at, past}
 use Rattle.code.specs.declared.Opening.{Opening}
 use Rattle.code.specs.Code.{run, count_at, arguments_at, statements_at, statements_end, head_in, opening_at, spawn_at, code_at, code_end}
 use Rattle.code.specs.Code.{transfer_at, coded, block_at}
 use Rattle.code.proofs.Ends.{run-goes, run_none, opening-is}
 use Rattle.words.proofs.Sets.{low}
-use Rattle.bound.specs.declared.Walk.{Walk}
-use Rattle.bound.specs.declared.Walk.TheVariants as walk
-use Rattle.bound.specs.Walks.{holds, statements_as, fresh_as}
+use Rattle.bound.specs.Walks.{Walked, holds, statements_as, fresh_as}
 use Rattle.bound.proofs.Looks.{all-has}
 use Rattle.bound.proofs.Walked.{walk_ends, resumed, code-walked, fresh-walked}
 use Rattle.bound.proofs.Faults.{need-fails, need-holds, then-first, then-second, given-fails, given-goes}
 use Rattle.bound.proofs.Faults.{each-ends, each_first, each-second}
-use Rattle.targets.specs.declared.Callee.{Callee}
-use Rattle.targets.specs.declared.Callee.TheVariants.{Takes, Unknown}
-use Rattle.targets.specs.declared.Verdict.{Verdict}
-use Rattle.targets.specs.declared.Verdict.TheVariants.{Fine, Fault}
 use Rattle.targets.specs.Targets as Targets
-use Rattle.targets.specs.Targets.{verdict_of, Within, Callees}
+use Rattle.targets.specs.Targets.{Verdict, Callee, fails, verdict_of, Within, Callees}
 use Rattle.targets.proofs.Lookups.{no-function, function-at, no_block, block-at, no-spawn, spawn-at}
 use Rattle.targets.proofs.Nestings.{runs-differ}
 use Rattle.targets.proofs.Judged.{no-callee, the-callee, list-long, own-there, own_is}
-use Rattle.verifier.specs.declared.Ranked.{Ranked}
-use Rattle.verifier.specs.declared.Ranked.TheVariants as ranked
-use Rattle.answers.specs.declared.Answer as Code
-use Rattle.answers.specs.declared.Answer.TheVariants.{Given, Refused}
 use Rattle.answers.specs.declared.Refusal.TheVariants as why
-use Rattle.verifier.specs.Verdicts.{ranked_of, follow, Nests, NestsAll, Entered, Enters, Spawns, SpawnsAll, Codes, Blocks, BlocksAll}
-use Rattle.verifier.specs.Verdicts.{FunctionsAll, Judges}
+use Rattle.verifier.specs.Verdicts.{Ranked, Judgement, ranked_of, follow, Nests, NestsAll, Entered, Spawns, SpawnsAll, Codes}
+use Rattle.verifier.specs.Verdicts.{Enters, Blocks, BlocksAll, FunctionsAll, Judges}
 
 -- function f keeps to the limits
 limits : {s places : List ℕ} {f : ℕ} {P : Program} {F : Function} → Within s places f P F → InFunction F
@@ -57,22 +48,22 @@ limits {f = f} {P = P} W = each_at InFunction P f W.index.limits.functions W.the
 
 -- a nesting's entry
 module _ (s places : List ℕ) (f π Γ : ℕ) {r : Place} (find : FindsSpawn places f π r) where
-  pub nest-missing : r ≡ Nowhere → Nests s places f π Γ (Fault No.missing)
+  pub nest-missing : r ≡ None → Nests s places f π Γ (fails No.missing)
   unfolding Check.nested env
   nest-missing z P F W = given-fails _ _ _ (no-spawn s places f π find W z)
 
-  module _ {at k : ℕ} {u : Bool} (z : r ≡ At at) (q : k ≡ past at 1) (e : u ≡ all (holds Γ) (arguments_at s k)) where
+  module _ {at k : ℕ} {u : Bool} (z : r ≡ Some at) (q : k ≡ past at 1) (e : u ≡ all (holds Γ) (arguments_at s k)) where
     lies : {P : Program} {F : Function} → Within s places f P F
         → all (holds Γ) (arguments_at s (past at 1)) ≡ all (has Γ) (arguments_at s (past at 1))
     unfolding spawn_at
     lies {F = F} W = all-has Γ _ (each_at InSpawn F.spawns π (limits W).spawns (spawn-at s places f π find W z)).each
 
-    pub nest-out : u ≡ false → Nests s places f π Γ (Fault No.scope)
+    pub nest-out : u ≡ false → Nests s places f π Γ (fails No.scope)
     unfolding Check.nested env spawn_at
     nest-out y P F W =
         given-goes _ _ _ (spawn-at s places f π find W z) (need-fails No.scope _ (sym (lies W) ∙ rw (← q) (sym e ∙ y)))
 
-    pub nest-in : u ≡ true → Nests s places f π Γ Fine
+    pub nest-in : u ≡ true → Nests s places f π Γ (Ok tt)
     unfolding Check.nested env spawn_at
     nest-in y P F W =
         given-goes _ _ _ (spawn-at s places f π find W z) (need-holds No.scope _ (sym (lies W) ∙ rw (← q) (sym e ∙ y)))
@@ -84,16 +75,16 @@ NestsLeft s places f at n Γ k left =
     fault (Tests.each (Check.nested (env P F) Γ) (run s at n)) ≡ fault (Tests.each (Check.nested (env P F) Γ) (run s k left))
 
 module _ (s places : List ℕ) (f at n Γ k left : ℕ) (i : NestsLeft s places f at n Γ k left) where
-  pub nests-end : left ≤ 0 → NestsAll s places f at n Γ Fine
+  pub nests-end : left ≤ 0 → NestsAll s places f at n Γ (Ok tt)
   nests-end l P F W = i P F W ∙ rw (run_none s k left l) (each-ends (Check.nested (env P F) Γ))
 
   module _ {x : ℕ} (r : Verdict) (h : 0 < left) (d : x ≡ byte_at s k) (j : Nests s places f x Γ r) where
-    pub nests-stop : {m : ℕ} → r ≡ Fault m → NestsAll s places f at n Γ (Fault m)
+    pub nests-stop : {m : Number.No} → r ≡ Err m → NestsAll s places f at n Γ (Err m)
     nests-stop z P F W = i P F W ∙ rw (run-goes s k left h, ← d) (each_first (Check.nested (env P F) Γ) x _ (j P F W ∙ ap verdict_of z))
 
-    pub nests_on : {l : ℕ} → r ≡ Fine → l ≡ past k 1 → NestsLeft s places f at n Γ l (left - 1)
-    nests_on z q P F W =
-        i P F W ∙ rw (run-goes s k left h, ← d, ← q) (each-second (Check.nested (env P F) Γ) x _ (j P F W ∙ ap verdict_of z))
+    pub nests_on : {l m : ℕ} → r ≡ Ok tt → l ≡ past k 1 → m ≡ left - 1 → NestsLeft s places f at n Γ l m
+    nests_on z q e P F W =
+        i P F W ∙ rw (run-goes s k left h, ← d, ← q, ← e) (each-second (Check.nested (env P F) Γ) x _ (j P F W ∙ ap verdict_of z))
 
 -- an entry's three facts
 and_none : (a : Bool) → (a && false) ≡ false
@@ -105,51 +96,47 @@ and_yes true = refl
 and_yes false = refl
 
 module _ (s places : List ℕ) (f : ℕ) (h : Opening) (t : Callee) (c : Callees s places f t) where
-  pub entered-unknown : (r : Bool) → t ≡ Unknown → Entered s places f h r
-  entered-unknown r z P F W = own-there s places f t c W z
-
-  pub entered-count : (h.count ≡ 0 → ⊥) → Entered s places f h false
+  entered-count : (h.count ≡ 0 → ⊥) → Entered s places f h false
   unfolding Check.is_entry head_in
   entered-count d P F W =
       rw (← runs-differ s h.parameters h.count [] d) refl
 
-  pub entered-depth : (h.depth ≡ 0 → ⊥) → Entered s places f h false
+  entered-depth : (h.depth ≡ 0 → ⊥) → Entered s places f h false
   unfolding Check.is_entry head_in
   entered-depth d P F W =
       rw (← runs-differ s h.nesting h.depth [] d)
       (sym (and_none (equal (run s h.parameters h.count) [] && eqb h.scope (below (env P F).own.parameters))))
 
-  module _ {n m : ℕ} (z : t ≡ Takes n m) where
+  module _ {n m : ℕ} (z : t ≡ Some (n, m)) where
     own : {P : Program} {F : Function} → Within s places f P F → F.signature.parameters ≡ n
     own W = ap (λ (S : Signature). S.parameters) (own_is s places f t c W z)
 
-    pub entered-wide : (r : Bool) → 16 ≤ n → Entered s places f h r
+    entered-wide : (r : Bool) → 16 ≤ n → Entered s places f h r
     entered-wide r l P F W = let few = (limits W).parameters in let is = own W in absurd (omega arith)
+
+    pub entered-not : {r : Bool} → r ≡ false
+        → ((h.count ≡ 0) × (h.depth ≡ 0) × (16 ≤ n)) ⊎ (((h.count ≡ 0) × (h.depth ≡ 0 → ⊥)) ⊎ (h.count ≡ 0 → ⊥)) → Entered s places f h r
+    entered-not {r} e (inl (p, q, l)) P F W = entered-wide r l P F W
+    entered-not e (inr (inl (p, d))) P F W = e ∙ entered-depth d P F W
+    entered-not e (inr (inr d)) P F W = e ∙ entered-count d P F W
 
     pub entered-scope : h.count ≡ 0 → h.depth ≡ 0 → n < 16 → Entered s places f h (eqb h.scope (1 * 2 ^ n % 65536 - 1))
     unfolding Check.is_entry below env head_in run equal
     entered-scope p q l P F W = rw (own W, p, q, low n l) (sym (and_yes (eqb h.scope (2 ^ n - 1))))
 
-module _ (s places : List ℕ) (f b : ℕ) (h : Opening) where
-  pub enters-first : (r : Bool) → b ≡ 0 → Entered s places f h r → Enters s places f b h r
-  enters-first r z j P F W = rw (eq-eqb b 0 z) (j P F W)
-
-  pub enters-later : (b ≡ 0 → ⊥) → Enters s places f b h true
-  enters-later z P F W = rw (ne_eqb b 0 z) refl
-
 -- a spawn call
 module _ (s places : List ℕ) (at : ℕ) {x : ℕ} (t : Callee) (d : x ≡ byte_at s at) (c : Callees s places x t) where
-  pub spawn-unknown : t ≡ Unknown → Spawns s places at (Fault No.missing)
+  pub spawn-unknown : t ≡ None → Spawns s places at (fails No.missing)
   unfolding Check.spawn spawn_at
   spawn-unknown z P F I = given-fails _ _ _ (no-callee s places t d c I F z)
 
-  module _ {n m k l : ℕ} (z : t ≡ Takes n m) (q : k ≡ past at 1) (e : l ≡ count_at s k) where
-    pub spawn-count : (l ≡ n → ⊥) → Spawns s places at (Fault No.count)
+  module _ {n m k l : ℕ} (z : t ≡ Some (n, m)) (q : k ≡ past at 1) (e : l ≡ count_at s k) where
+    pub spawn-count : (l ≡ n → ⊥) → Spawns s places at (fails No.count)
     unfolding Check.spawn spawn_at
     spawn-count h P F I =
         given-goes _ _ _ (the-callee s places t d c I F z) (need-fails No.count _ (ne_eqb _ _ (λ a. h (sym (list-long s q e) ∙ a))))
 
-    pub spawn-fine : l ≡ n → Spawns s places at Fine
+    pub spawn-fine : l ≡ n → Spawns s places at (Ok tt)
     unfolding Check.spawn spawn_at
     spawn-fine h P F I = given-goes _ _ _ (the-callee s places t d c I F z) (need-holds No.count _ (eq-eqb _ _ (list-long s q e ∙ h)))
 
@@ -164,35 +151,35 @@ module _ (s places : List ℕ) (f k : ℕ) (i : SpawnsLeft s places f k) where
       → fault (Tests.each (Check.spawn (env P F)) F.spawns) ≡ none
   spawns-over P F W e = i P F W ∙ rw (drop-none F.spawns k e) (each-ends (Check.spawn (env P F)))
 
-  pub spawns-end : 8 ≤ k → SpawnsAll s places f Fine
+  pub spawns-end : 8 ≤ k → SpawnsAll s places f (Ok tt)
   spawns-end l P F W = let few = (limits W).few_spawns in spawns-over P F W (past-at F.spawns k (omega arith))
 
   module _ {r : Place} (find : FindsSpawn places f k r) where
-    pub spawns-none : r ≡ Nowhere → SpawnsAll s places f Fine
+    pub spawns-none : r ≡ None → SpawnsAll s places f (Ok tt)
     spawns-none z P F W = spawns-over P F W (no-spawn s places f k find W z)
 
-    module _ {at : ℕ} (q : Verdict) (z : r ≡ At at) (j : Spawns s places at q) where
+    module _ {at : ℕ} (q : Verdict) (z : r ≡ Some at) (j : Spawns s places at q) where
       spawn-next : {P : Program} {F : Function} → Within s places f P F → drop k F.spawns ≡ spawn_at s at ∷ drop (k + 1) F.spawns
       spawn-next {F = F} W = drop-some F.spawns k (spawn-at s places f k find W z)
 
-      pub spawns-stop : {m : ℕ} → q ≡ Fault m → SpawnsAll s places f (Fault m)
+      pub spawns-stop : {m : Number.No} → q ≡ Err m → SpawnsAll s places f (Err m)
       spawns-stop w P F W = i P F W ∙ rw (spawn-next W) (each_first (Check.spawn (env P F)) _ _ (j P F W.index ∙ ap verdict_of w))
 
-      pub spawns-on : q ≡ Fine → SpawnsLeft s places f (k + 1)
+      pub spawns-on : q ≡ Ok tt → SpawnsLeft s places f (k + 1)
       spawns-on w P F W = i P F W ∙ rw (spawn-next W) (each-second (Check.spawn (env P F)) _ _ (j P F W.index ∙ ap verdict_of w))
 
 -- statements and transfer, behind a head
-module _ (s places : List ℕ) (f : ℕ) (h : Opening) (Γ : ℕ) {k x : ℕ} {w : Walk} (q : k ≡ past h.behind 1) (d : x ≡ byte_at s h.behind)
+module _ (s places : List ℕ) (f : ℕ) (h : Opening) (Γ : ℕ) {k x : ℕ} {w : Walked} (q : k ≡ past h.behind 1) (d : x ≡ byte_at s h.behind)
     (e : w ≡ statements_as Γ (statements_at s k x) (statements_end s k x)) where
   walks : w ≡ statements_as Γ (code_at s h.behind) (code_end s h.behind)
   unfolding code_at code_end
   walks = rw (← q, ← d) e
 
-  pub code-fault : {m : ℕ} → w ≡ walk.Fault m → Codes s places f h Γ (Fault m)
+  pub code-fault : {m : Number.No} → w ≡ Err m → Codes s places f h Γ (Err m)
   unfolding resumed
   code-fault z P F W L = code-walked (env P F) Γ _ _ _ (code_end s h.behind) L.code ∙ rw (← walks, z)
 
-  pub code-transfer : {Δ j : ℕ} (v : Verdict) → w ≡ walk.Done Δ j
+  pub code-transfer : {Δ j : ℕ} (v : Verdict) → w ≡ Ok (Δ, j)
       → Targets.Judges s places (record { f = f; bound = Δ; nesting = h.nesting; depth = h.depth }) (transfer_at s j) v
       → Codes s places f h Γ v
   unfolding resumed head_in
@@ -209,11 +196,11 @@ module _ (s places : List ℕ) (f b at : ℕ) {h : Opening} {r : Bool} (o : h �
   whole : block_at s at ≡ coded (head_in s h) s h.behind
   whole = block-opened s at ∙ rw (← o)
 
-  pub block-entry : r ≡ false → Blocks s places f b at (Fault No.entry)
+  pub block-entry : r ≡ false → Blocks s places f b at (fails No.entry)
   unfolding Check.block
   block-entry z P F W L = rw whole (then-first _ _ (need-fails No.entry _ (sym (enters P F W) ∙ z)))
 
-  module _ {w : Walk} (z : r ≡ true)
+  module _ {w : Walked} (z : r ≡ true)
       (d : w ≡ fresh_as h.scope (run s h.parameters h.count) (past h.parameters h.count)) where
     abbrev behind : Program → Function → ℕ → Tests
     behind P F Δ =
@@ -230,16 +217,16 @@ module _ (s places : List ℕ) (f b at : ℕ) {h : Opening} {r : Bool} (o : h �
         (fresh-walked h.scope (run s h.parameters h.count) (past h.parameters h.count) (behind P F)
         l.head.parameters.each ∙ rw (← d)))
 
-    pub block-fresh : {m : ℕ} → w ≡ walk.Fault m → Blocks s places f b at (Fault m)
+    pub block-fresh : {m : Number.No} → w ≡ Err m → Blocks s places f b at (Err m)
     unfolding resumed
     block-fresh y P F W L = goes P F W L ∙ rw y
 
-    module _ {Δ k : ℕ} (v : Verdict) (y : w ≡ walk.Done Δ k) (nests : NestsAll s places f h.nesting h.depth h.scope v) where
-      pub block-nest : {m : ℕ} → v ≡ Fault m → Blocks s places f b at (Fault m)
+    module _ {Δ k : ℕ} (v : Verdict) (y : w ≡ Ok (Δ, k)) (nests : NestsAll s places f h.nesting h.depth h.scope v) where
+      pub block-nest : {m : Number.No} → v ≡ Err m → Blocks s places f b at (Err m)
       unfolding resumed
       block-nest x P F W L = goes P F W L ∙ rw y (then-first _ _ (nests P F W ∙ ap verdict_of x))
 
-      pub block-code : (q : Verdict) → v ≡ Fine → Codes s places f h Δ q → Blocks s places f b at q
+      pub block-code : (q : Verdict) → v ≡ Ok tt → Codes s places f h Δ q → Blocks s places f b at q
       unfolding resumed
       block-code q x code P F W L =
           let l : InBlock (coded (head_in s h) s h.behind) = rw whole at L in
@@ -272,25 +259,25 @@ module _ (s places : List ℕ) (f b : ℕ) (i : BlocksLeft s places f b) where
   unfolding Check.of_blocks follow
   blocks-over P F a W e = i P F a W ∙ rw (drop-none F.blocks b e)
 
-  pub blocks_end : 32 ≤ b → BlocksAll s places f ranked.Clean
+  pub blocks_end : 32 ≤ b → BlocksAll s places f (Ok tt)
   blocks_end l P F a W = let few = (limits W).few_blocks in blocks-over P F a W (past-at F.blocks b (omega arith))
 
   module _ {r : Place} (find : FindsBlock places f b r) where
-    pub blocks-none : r ≡ Nowhere → BlocksAll s places f ranked.Clean
+    pub blocks-none : r ≡ None → BlocksAll s places f (Ok tt)
     blocks-none z P F a W = blocks-over P F a W (no_block s places f b find W z)
 
-    module _ {at : ℕ} (q : Verdict) (z : r ≡ At at) (j : Blocks s places f b at q) where
+    module _ {at : ℕ} (q : Verdict) (z : r ≡ Some at) (j : Blocks s places f b at q) where
       block-said : {P : Program} {F : Function} → Within s places f P F
           → (drop b F.blocks ≡ block_at s at ∷ drop (b + 1) F.blocks) × (fault (Check.block (env P F) b (block_at s at)) ≡ verdict_of q)
       block-said {P} {F} W =
           let there = block-at s places f b find W z in
           (drop-some F.blocks b there, j P F W (each_at InBlock F.blocks b (limits W).blocks there))
 
-      pub blocks-stop : {m : ℕ} → q ≡ Fault m → BlocksAll s places f (ranked.Fault m b)
+      pub blocks-stop : {m : Number.No} → q ≡ Err m → BlocksAll s places f (Err (m, b))
       unfolding Check.of_blocks
       blocks-stop w P F a W = let (is, said) = block-said W in i P F a W ∙ rw is (follow-stops _ _ a (said ∙ ap verdict_of w))
 
-      pub blocks-on : q ≡ Fine → BlocksLeft s places f (b + 1)
+      pub blocks-on : q ≡ Ok tt → BlocksLeft s places f (b + 1)
       unfolding Check.of_blocks
       blocks-on w P F a W = let (is, said) = block-said W in i P F a W ∙ rw is (follow-goes _ _ a (said ∙ ap verdict_of w))
 
@@ -304,25 +291,25 @@ module _ (s places : List ℕ) (f : ℕ) (i : FunctionsLeft s places f) where
   unfolding Check.of_functions first_fault
   functions-over P I e = i P I ∙ rw (drop-none P f e)
 
-  pub functions-end : 16 ≤ f → FunctionsAll s places Given
+  pub functions-end : 16 ≤ f → FunctionsAll s places (Ok tt)
   functions-end l P I = let few = I.limits.few in functions-over P I (past-at P f (omega arith))
 
   module _ {r : Place} (find : FindsFunction places f r) where
-    pub functions-none : r ≡ Nowhere → FunctionsAll s places Given
+    pub functions-none : r ≡ None → FunctionsAll s places (Ok tt)
     functions-none z P I = functions-over P I (no-function s places f find P I z)
 
-    module _ {at : ℕ} (q : Verdict) (z : r ≡ At at) (spawns : SpawnsAll s places f q) where
+    module _ {at : ℕ} (q : Verdict) (z : r ≡ Some at) (spawns : SpawnsAll s places f q) where
       there : {P : Program} → Places s P places → (F : Function) × Within s places f P F
       there {P} I = let (F, e, _) = function-at s places f find P I z in (F, record { index = I; there = e })
 
-      pub functions-spawn : {m : ℕ} → q ≡ Fault m → FunctionsAll s places (Refused (why.Fault m f nowhere))
+      pub functions-spawn : {m : Number.No} → q ≡ Err m → FunctionsAll s places (Err (why.Fault m f nowhere))
       unfolding Check.of_functions first_fault Check.at
       functions-spawn {m} e P I =
           let (F, W) = there I in
-          let stop : fault (Tests.each (Check.spawn (env P F)) F.spawns) ≡ some m = spawns P F W ∙ ap verdict_of e in
+          let stop : fault (Tests.each (Check.spawn (env P F)) F.spawns) ≡ some m.0 = spawns P F W ∙ ap verdict_of e in
           i P I ∙ rw (drop-some P f W.there, stop)
 
-      module _ (w : Ranked) (e : q ≡ Fine) (blocks : BlocksAll s places f w) where
+      module _ (w : Ranked) (e : q ≡ Ok tt) (blocks : BlocksAll s places f w) where
         split : (P : Program) → Places s P places
             → first_fault (Check.of_functions P 0 P) ≡ ranked_of f w (first_fault (Check.of_functions P (f + 1) (drop (f + 1) P)))
         unfolding Check.of_functions first_fault Check.at
@@ -334,10 +321,10 @@ module _ (s places : List ℕ) (f : ℕ) (i : FunctionsLeft s places f) where
             (follow-append (Check.of_blocks (env P F) f 0 F.blocks) (Check.of_functions P (f + 1) (drop (f + 1) P)) ∙
             blocks P F (first_fault (Check.of_functions P (f + 1) (drop (f + 1) P))) W)
 
-        pub functions-block : {m b : ℕ} → w ≡ ranked.Fault m b → FunctionsAll s places (Refused (why.Fault m f b))
+        pub functions-block : {m : Number.No} {b : ℕ} → w ≡ Err (m, b) → FunctionsAll s places (Err (why.Fault m f b))
         functions-block d P I = split P I ∙ rw d
 
-        pub functions-on : w ≡ ranked.Clean → FunctionsLeft s places (f + 1)
+        pub functions-on : w ≡ Ok tt → FunctionsLeft s places (f + 1)
         functions-on d P I = split P I ∙ rw d
 
 -- the whole
@@ -345,17 +332,17 @@ module _ (s places : List ℕ) (t : Callee) (c : Callees s places 0 t) where
   main : (P : Program) → Places s P places → (F : Function) × Within s places 0 P F
   main P I = let (F, e) = below_at P 0 I.limits.some in (F, record { index = I; there = e })
 
-  pub judge-unknown : (r : Code.Answer) → t ≡ Unknown → Judges s places r
+  pub judge-unknown : (r : Judgement) → t ≡ None → Judges s places r
   judge-unknown r z P I = let (F, W) = main P I in own-there s places 0 t c W z
 
-  module _ {n m : ℕ} (z : t ≡ Takes n m) where
+  module _ {n m : ℕ} (z : t ≡ Some (n, m)) where
     own-main : {P : Program} {F : Function} → Within s places 0 P F → F.signature.parameters ≡ n
     own-main W = ap (λ (S : Signature). S.parameters) (own_is s places 0 t c W z)
 
-    pub judge-main : (n ≡ 0 → ⊥) → Judges s places (Refused (why.Fault No.main 0 nowhere))
+    pub judge-main : (n ≡ 0 → ⊥) → Judges s places (Err (why.Fault (record { 0 = No.main }) 0 nowhere))
     unfolding Check.judge Check.tests Check.of_main first_fault Check.at fault
     judge-main d P I = let (F, W) = main P I in rw (W.there, own-main W, ne_eqb n 0 d)
 
-    pub judge-on : (r : Code.Answer) → n ≡ 0 → FunctionsAll s places r → Judges s places r
+    pub judge-on : (r : Judgement) → n ≡ 0 → FunctionsAll s places r → Judges s places r
     unfolding Check.judge Check.tests Check.of_main first_fault Check.at fault
     judge-on r d g P I = let (F, W) = main P I in rw (W.there, own-main W, eq-eqb n 0 d) (g P I)

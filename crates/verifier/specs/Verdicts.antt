@@ -1,5 +1,5 @@
 -- What each part of the check says, for every program that the places are those of: the first fault of what stands there.
-use Rattle.std.specs.Prelude.{ℕ, ◌≡◌, Bool, not, ◌||◌, List, [], ◌∷◌, eqb}
+use Rattle.std.specs.Prelude.{ℕ, ◌≡◌, Bool, not, ◌||◌, List, [], ◌∷◌, eqb, Result, Ok, Err}
 use Rattle.model.specs.Answers.{Refusal, Answer}
 use Rattle.model.specs.Syntax.{Function, Program}
 use Rattle.model.specs.Tests.{Tests, fault}
@@ -10,17 +10,23 @@ use Rattle.model.specs.Limits.{InBlock}
 use Rattle.places.specs.Places.{Places}
 use Rattle.code.specs.declared.Opening.{Opening}
 use Rattle.code.specs.Code.{run, head_in, spawn_at, code_at, code_end, transfer_at, coded, block_at}
-use Rattle.targets.specs.declared.Verdict.{Verdict}
-use Rattle.targets.specs.Targets.{verdict_of, Within}
-use Rattle.verifier.specs.declared.Ranked.{Ranked}
-use Rattle.verifier.specs.declared.Ranked.TheVariants as ranked
-use Rattle.answers.specs.declared.Answer as Code
+use Rattle.targets.specs.Targets.{Verdict, verdict_of, Within}
+use Rattle.answers.specs.declared.No.{No}
+use Rattle.answers.specs.declared.Refusal as Code
 use Rattle.answers.specs.Answers.{answer_of}
+
+-- the blocks of a function: none has a fault, or the first fault's number and block
+abbrev pub Ranked : Type 0
+Ranked = Result (Unit {0}) (No × ℕ)
+
+-- the answer on the whole
+abbrev pub Judgement : Type 0
+Judgement = Result (Unit {0}) Code.Refusal
 
 -- the answer of function f's blocks, before that of what follows
 abbrev pub ranked_of : ℕ → Ranked → Answer (Unit {0}) → Answer (Unit {0})
-ranked_of f ranked.Clean a = a
-ranked_of f (ranked.Fault n b) a = Answer.refused (Refusal.fault n f b)
+ranked_of f (Ok _) a = a
+ranked_of f (Err (n, b)) a = Answer.refused (Refusal.fault n.0 f b)
 
 -- an entry of a nesting, and n of them
 abbrev pub Nests : List ℕ → List ℕ → ℕ → ℕ → ℕ → Verdict → Type 0
@@ -69,8 +75,8 @@ BlocksAll s places f r =
     (P : Program) (F : Function) (a : Answer (Unit {0})) → Within s places f P F →
     follow (Check.of_blocks (env P F) f 0 F.blocks) a ≡ ranked_of f r a
 
-abbrev pub FunctionsAll : List ℕ → List ℕ → Code.Answer → Type 0
+abbrev pub FunctionsAll : List ℕ → List ℕ → Judgement → Type 0
 FunctionsAll s places r = (P : Program) → Places s P places → first_fault (Check.of_functions P 0 P) ≡ answer_of r
 
-abbrev pub Judges : List ℕ → List ℕ → Code.Answer → Type 0
+abbrev pub Judges : List ℕ → List ℕ → Judgement → Type 0
 Judges s places r = (P : Program) → Places s P places → Check.judge P ≡ answer_of r

@@ -6,8 +6,10 @@ use mathlib.Core.Path.{◌≡◌, refl, sym, ap, ◌∙◌}
 use mathlib.Core.List.{List, ◌∷◌, ◌++◌, append_assoc}
 use lib.IntN.{ℤ, pos}
 use lib.ListN.{length, take, drop, set, get_or, replicate, length-set, length-drop, length-replicate}
-use lib.Seq.{paste, paste-suc, paste-zero, length-paste, drop-paste, take_at, take_all, take-length, length-take-le, take-suc, append_snoc}
+use lib.Seq.{paste, paste-suc, paste-zero, length-paste, drop-paste, take_at, take-length, length-take-le, take-suc, append_snoc}
 use lib.Seq.{set_at, get_or-take, get_or-drop, drop-cons}
+use borrow.Rule.Slice.PartMut.{put_mid}
+use Rattle.std.proofs.lemmas.Slice.{put_mid-paste}
 use Rattle.words.specs.Runs.{pasted, moved, cleared}
 
 -- the next word of s, behind those that are there
@@ -113,18 +115,22 @@ one_less {d₀} {from} {to} {n} {d} {left} u x h k z l e =
     }
 
 -- the whole run
-pub all-pasted : {d₀ : List ℤ} {at : ℕ} {s d : List ℤ} {i : ℕ} → Run d₀ at s d i → i ≡ length s → d ≡ pasted d₀ at s
+pub all-pasted : (d : List ℤ) (at k : ℕ) (s ys : List ℤ) → ys ≡ s → length s ≡ k → put_mid at k d ys ≡ pasted d at s
 unfolding pasted
-all-pasted {d₀} {at} {s} r e =
-    r.is ∙ ap (paste d₀ at s) e ∙ ap (λ (l : List ℤ). take at d₀ ++ l ++ drop (at + length s) d₀) (take-length s)
+all-pasted d at k s ys e h =
+    put_mid-paste at k d ys s (length s) e h refl
+    ∙ ap (λ (l : List ℤ). take at d ++ l ++ drop (at + length s) d) (take-length s)
 
-pub all-cleared : {d₀ : List ℤ} {at : ℕ} {d : List ℤ} {i : ℕ} (n : ℕ) → Run d₀ at (replicate n (pos 0)) d i → i ≡ n → d ≡ cleared d₀ at n
-unfolding cleared
-all-cleared {d₀} {at} n r e =
-    r.is
-    ∙ ap (paste d₀ at (replicate n (pos 0))) e
-    ∙ ap (λ (l : List ℤ). take at d₀ ++ l ++ drop (at + n) d₀)
-    (take_all n (replicate n (pos 0)) (omega (arith, length-replicate n (pos 0))))
+pub all-cleared : (d : List ℤ) (at n : ℕ) (ys : List ℤ) → at + n ≤ length d
+    → ys ≡ replicate (length (take (at + n - at) (drop at d))) (pos 0) → put_mid at (at + n - at) d ys ≡ cleared d at n
+unfolding cleared pasted
+all-cleared d at n ys h e =
+    let k : at + n - at ≡ n = omega arith in
+    let f : at + n - at ≤ length (drop at d) = omega (arith, length-drop at d) in
+    let m : length (take (at + n - at) (drop at d)) ≡ n = length-take-le (at + n - at) (drop at d) f ∙ k in
+    let l : length (replicate n (pos 0)) ≡ n = length-replicate n (pos 0) in
+    all-pasted d at (at + n - at) (replicate n (pos 0)) ys (e ∙ ap (λ (j : ℕ). replicate j (pos 0)) m) (l ∙ sym k)
+    ∙ ap (λ (j : ℕ). take at d ++ replicate n (pos 0) ++ drop (at + j) d) l
 
 pub all_moved : {d₀ : List ℤ} {to : ℕ} {d : List ℤ} {i : ℕ} (from n : ℕ) → Run d₀ to (drop from d₀) d i → i ≡ n → d ≡ moved d₀ from to n
 unfolding moved

@@ -1,7 +1,7 @@
-// What code over numbers needs: the 32 bits of a signed word, big-endian numbers, and runs of words.
+// What code over numbers needs: the 32 bits of a signed word, big-endian numbers, runs of words, and an item at a place of any list.
 #![tactic(auto)]
 
-ghost use Rattle.std.specs.Prelude.{◌≡◌, ◌+◌, ◌*◌, ◌≤◌, length};
+ghost use Rattle.std.specs.Prelude.{◌≡◌, ◌+◌, ◌*◌, ◌≤◌, length, set};
 ghost use Rattle.std.specs.Int.{w32};
 ghost use Rattle.std.proofs.Common.{of_z, to_z};
 ghost use Rattle.words.specs.Runs.{pasted, moved, cleared};
@@ -10,34 +10,27 @@ ghost use Rattle.words.specs.Runs.{pasted, moved, cleared};
 pub fn bits(x: i32) -> u32
     ensures { result ≡ of_z w32 x }
 {
-    if x < 0 {
-        u32::MAX - ((-1 - x) as u32)
-    } else {
-        x as u32
-    }
+    x.cast_unsigned()
 }
 
 // The signed word of 32 bits.
 pub fn signed(n: u32) -> i32
     ensures { result ≡ to_z w32 n }
 {
-    if n < 2147483648 {
-        n as i32
-    } else {
-        -1 - ((u32::MAX - n) as i32)
-    }
+    n.cast_signed()
 }
 
-// Big-endian numbers of two and of four bytes.
+// Big-endian numbers: of two bytes, and of two halves.
 pub fn half(a: u8, b: u8) -> u16
     ensures { result ≡ a * 256 + b }
 {
-    (a as u16) * 256 + (b as u16)
+    u16::from_be_bytes([a, b])
 }
 
 pub fn word(a: u16, b: u16) -> u32
     ensures { result ≡ a * 65536 + b }
 {
+    // No plainer: `from_be_bytes` would first take both halves apart.
     (a as u32) * 65536 + (b as u32)
 }
 
@@ -46,14 +39,11 @@ pub fn copy(d: &mut [i32], at: usize, s: &[i32])
     requires { at + length s.now ≤ length d.old }
     ensures { d.new ≡ pasted d.old at s.now }
 {
-    let mut i = 0;
-    while i < s.len() {
-        d[at + i] = s[i];
-        i += 1;
-    }
+    d[at..at + s.len()].copy_from_slice(s);
 }
 
-// n words, moved from one place to another that may overlap it.
+// n words, moved from one place to another that may overlap it. By loops, and not by `copy_within`: that is a call of memmove, which a
+// host of the static library need not have.
 pub fn move_run(d: &mut [i32], from: usize, to: usize, n: usize)
     requires { (from + n ≤ length d.old) × (to + n ≤ length d.old) }
     ensures { d.new ≡ moved d.old from to n }
@@ -69,10 +59,8 @@ fn move_down(d: &mut [i32], from: usize, to: usize, n: usize)
     requires { (from + n ≤ length d.old) × (to ≤ from) }
     ensures { d.new ≡ moved d.old from to n }
 {
-    let mut i = 0;
-    while i < n {
+    for i in 0..n {
         d[to + i] = d[from + i];
-        i += 1;
     }
 }
 
@@ -80,10 +68,17 @@ fn move_up(d: &mut [i32], from: usize, to: usize, n: usize)
     requires { (to + n ≤ length d.old) × (from ≤ to) }
     ensures { d.new ≡ moved d.old from to n }
 {
-    let mut left = n;
-    while 0 < left {
-        left -= 1;
+    for left in (0..n).rev() {
         d[to + left] = d[from + left];
+    }
+}
+
+// x at place i, where there is one. By index: behind `get_mut` no other item of the list is known.
+pub fn put<T: Copy>(list: &mut [T], i: usize, x: T)
+    ensures { list.new ≡ set list.old i x }
+{
+    if i < list.len() {
+        list[i] = x;
     }
 }
 
@@ -92,9 +87,5 @@ pub fn clear(d: &mut [i32], at: usize, n: usize)
     requires { at + n ≤ length d.old }
     ensures { d.new ≡ cleared d.old at n }
 {
-    let mut i = 0;
-    while i < n {
-        d[at + i] = 0;
-        i += 1;
-    }
+    d[at..at + n].fill(0);
 }

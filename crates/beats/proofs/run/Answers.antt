@@ -1,21 +1,16 @@
 -- `beats::run` meets its contract.
+use borrow.Author.Rules.{rules}
+use mathlib.Core.Path.{◌≡◌}
 use Rattle.beats.proofs.Lending.{refused-at, given-at, run-unlent, run_lent}
 use Rattle.beats.proofs.run.Goals as goal
 
-pub beats-requires : goal.beats-requires
-beats-requires c =
-    let a = given-at _ _ _ _ _ _ c.admit.result c.admit.ensures c.none-places.ensures
-    c.in-Given.is in
-    (a.lending.long, a.n, a.c)
+pub unwrap-ws-requires : goal.unwrap-ws-requires
+unwrap-ws-requires c = let h = (given-at _ _ _ _ _ _ c.none-places.ensures _ c.in-Ok.ensures).lending.long in search rules
 
-pub returns-in-Refused : goal.returns-in-Refused
-returns-in-Refused c =
-    run-unlent _ _ _ _ c.in-Refused.why
-    (refused-at _ _ _ _ _ _ c.admit.result c.admit.ensures c.none-places.ensures _
-    c.in-Refused.is) _
+pub returns-in-Err : goal.returns-in-Err
+returns-in-Err c = run-unlent _ _ _ _ _ (refused-at _ _ _ _ _ _ c.none-places.ensures _ c.in-Err.ensures) _
 
-pub returns-in-Given : goal.returns-in-Given
-returns-in-Given c =
-    run_lent
-    (given-at _ _ _ _ _ _ c.admit.result c.admit.ensures c.none-places.ensures
-    c.in-Given.is) c.beats.result c.beats.ensures
+pub returns-in-Ok : goal.returns-in-Ok
+returns-in-Ok c =
+    let e : c.unwrap-ws.result.now ≡ c.args.pool.now = search rules in
+    run_lent (given-at _ _ _ _ _ _ c.none-places.ensures _ c.in-Ok.ensures) c.beats.result (rw (← e) c.beats.ensures)

@@ -4,5 +4,5 @@ use Rattle.beats.proofs.share.Goals as goal
 
 pub returns : goal.returns
 returns c =
-    shares-purse c.args.thread c.purse_at-e.result c.keep.result c.hand.result
-    c.purse_at-e.ensures.finds c.keep.ensures.is c.endow.ensures c.hand.ensures.is c.endow-2.ensures
+    shares-purse c.args.thread c.purse_at-e.result c.keep.result c.hand.result c.purse_at-e.ensures c.keep.ensures c.endow.ensures
+    c.hand.ensures c.endow-2.ensures

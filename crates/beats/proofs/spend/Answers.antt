@@ -4,23 +4,17 @@ use Rattle.beats.proofs.Paying.{spending-none, spending-more, spending-stops, sp
 use Rattle.beats.proofs.spend.Goals as goal
 
 pub loop-made-init : goal.loop-made-init
-loop-made-init c = (search rules, spending-none _ _ _ _ c.requires)
-
-pub pay-requires : goal.pay-requires
-pay-requires c = search rules
+loop-made-init c = spending-none _ _ _ _
 
 pub returns-then-not-pay : goal.returns-then-not-pay
 returns-then-not-pay c = record {
-  is = spending-stops c.loop-made.invariant.1 c.pay.result c.if-not-pay.true c.pay.ensures;
+  is = spending-stops c.loop-made.invariant c.pay.result c.if-not-pay.true c.pay.ensures;
   few = search rules;
 }
 
 pub loop-made-preserved : goal.loop-made-preserved
-loop-made-preserved c = (
-  search rules,
-  spending-more c.loop-made.invariant.1 c.pay.result c.if-not-pay.false (search rules)
-      (search rules) c.pay.ensures,
-)
+loop-made-preserved c =
+    spending-more c.loop-made.invariant c.pay.result c.if-not-pay.false (search rules) c.pay.ensures
 
 pub returns : goal.returns
-returns c = record { is = spending-all c.loop-made.invariant.1 (search rules); few = search rules }
+returns c = record { is = spending-all c.loop-made.invariant (search rules); few = search rules }

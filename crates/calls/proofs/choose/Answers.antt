@@ -1,31 +1,26 @@
 -- `calls::choose` meets its contract.
+use borrow.Author.Rules.{rules}
+use mathlib.Core.Path.{◌≡◌}
 use Rattle.lend.proofs.Lending.{refused-pool, given-pool}
-use Rattle.calls.proofs.Lent.{choose-refused, choose-given}
+use Rattle.calls.proofs.Lent.{choose-refused, choose-made, choose-not}
 use Rattle.calls.proofs.choose.Goals as goal
 
-pub choice-requires : goal.choice-requires
-choice-requires c =
-    let pool = c.pool in
-    (given-pool _ _ _ _ pool.result pool.ensures c.none-places.ensures c.in-Given.is).long
+pub returns-in_err-pool : goal.returns-in_err-pool
+returns-in_err-pool c =
+    choose-refused _ _ c.in_err-pool.field-0.0 (refused-pool _ _ _ _ c.none-places.ensures _ c.in_err-pool.ensures)
+    _ _ (search rules)
 
-pub returns-in-Refused : goal.returns-in-Refused
-returns-in-Refused c =
-    let pool = c.pool in
-    choose-refused _ _
-    (refused-pool _ _ _ _ pool.result pool.ensures c.none-places.ensures _ c.in-Refused.is) _ _
+pub unwrap-ws-requires : goal.unwrap-ws-requires
+unwrap-ws-requires c = let h = (given-pool _ _ _ _ c.none-places.ensures c.in_ok-pool.ensures).long in search rules
 
-pub returns-in-Rule : goal.returns-in-Rule
-returns-in-Rule c =
-    let pool = c.pool in
-    choose-given _ _ _
-    (given-pool _ _ _ _ pool.result pool.ensures c.none-places.ensures c.in-Given.is) _ _
-    c.choice.result _ _
-    c.choice.ensures c.in-Rule.is
+pub returns-in_err-choice : goal.returns-in_err-choice
+returns-in_err-choice c =
+    let e : c.unwrap-ws.result.now ≡ c.args.pool.now = search rules in
+    choose-not (given-pool _ _ _ _ c.none-places.ensures c.in_ok-pool.ensures) c.choice.result (rw (← e) c.choice.ensures)
+    c.in_err-choice.was (search rules)
 
-pub returns-in-Refused-choice : goal.returns-in-Refused-choice
-returns-in-Refused-choice c =
-    let pool = c.pool in
-    choose-given _ _ _
-    (given-pool _ _ _ _ pool.result pool.ensures c.none-places.ensures c.in-Given.is) _ _
-    c.choice.result _ _
-    c.choice.ensures c.in-Refused-choice.is
+pub returns : goal.returns
+returns c =
+    let e : c.unwrap-ws.result.now ≡ c.args.pool.now = search rules in
+    choose-made (given-pool _ _ _ _ c.none-places.ensures c.in_ok-pool.ensures) c.choice.result (rw (← e) c.choice.ensures)
+    c.in_ok-choice.was

@@ -1,19 +1,15 @@
 -- `calls::start` meets its contract.
+use borrow.Author.Rules.{rules}
 use Rattle.lend.proofs.Lending.{refused-words, given-words, long-words}
 use Rattle.calls.proofs.Lent.{start-refused, start-given}
 use Rattle.calls.proofs.start.Goals as goal
 
-pub start_pool-requires : goal.start_pool-requires
-start_pool-requires c =
-    let words = c.words in
-    long-words _ _ _ _ words.result words.ensures c.in-Given.is
+pub unwrap-ws-requires : goal.unwrap-ws-requires
+unwrap-ws-requires c = let h = long-words _ _ _ _ c.in_ok-words.ensures in search rules
 
-pub returns-in-Refused : goal.returns-in-Refused
-returns-in-Refused c =
-    let words = c.words in
-    start-refused _ _ (refused-words _ _ _ _ words.result words.ensures _ c.in-Refused.is)
+pub returns-in_err-words : goal.returns-in_err-words
+returns-in_err-words c =
+    start-refused _ _ c.in_err-words.field-0.0 (refused-words _ _ _ _ _ c.in_err-words.ensures) (search rules)
 
-pub returns-in-Given : goal.returns-in-Given
-returns-in-Given c =
-    let words = c.words in
-    start-given _ _ (given-words _ _ _ _ words.result words.ensures c.in-Given.is) c.start_pool.ensures
+pub returns : goal.returns
+returns c = start-given _ _ (given-words _ _ _ _ c.in_ok-words.ensures) c.start_pool.ensures

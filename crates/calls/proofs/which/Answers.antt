@@ -1,28 +1,19 @@
 -- `calls::which` meets its contract.
+use borrow.Author.Rules.{rules}
+use mathlib.Core.Path.{◌≡◌}
 use Rattle.lend.proofs.Lending.{refused-pool, given-pool}
-use Rattle.calls.proofs.Lent.{which-refused, which-thread, which-nobody}
+use Rattle.calls.proofs.Lent.{which-refused, which-given}
 use Rattle.calls.proofs.which.Goals as goal
 
-pub can_step-requires : goal.can_step-requires
-can_step-requires c =
-    let pool = c.pool in
-    (given-pool _ _ _ _ pool.result pool.ensures c.none-places.ensures c.in-Given.is).long
+pub returns-in_err-pool : goal.returns-in_err-pool
+returns-in_err-pool c =
+    which-refused _ _ c.in_err-pool.field-0.0 (refused-pool _ _ _ _ c.none-places.ensures _ c.in_err-pool.ensures)
+    (search rules)
 
-pub returns-in-Refused : goal.returns-in-Refused
-returns-in-Refused c =
-    let pool = c.pool in
-    which-refused _ _ (refused-pool _ _ _ _ pool.result pool.ensures c.none-places.ensures _ c.in-Refused.is)
+pub unwrap-ws-requires : goal.unwrap-ws-requires
+unwrap-ws-requires c = let h = (given-pool _ _ _ _ c.none-places.ensures c.in_ok-pool.ensures).long in search rules
 
-pub returns-in-Thread : goal.returns-in-Thread
-returns-in-Thread c =
-    let pool = c.pool in
-    which-thread _ _ _ (given-pool _ _ _ _ pool.result pool.ensures c.none-places.ensures c.in-Given.is)
-    c.can_step.result
-    c.can_step.ensures _ c.in-Thread.is
-
-pub returns-in-Nobody : goal.returns-in-Nobody
-returns-in-Nobody c =
-    let pool = c.pool in
-    which-nobody _ _ _ (given-pool _ _ _ _ pool.result pool.ensures c.none-places.ensures c.in-Given.is)
-    c.can_step.result
-    c.can_step.ensures c.in-Nobody.is
+pub returns : goal.returns
+returns c =
+    let e : c.unwrap-ws.result.now ≡ c.args.pool.now = search rules in
+    which-given (given-pool _ _ _ _ c.none-places.ensures c.in_ok-pool.ensures) c.can_step.result (rw (← e) c.can_step.ensures)

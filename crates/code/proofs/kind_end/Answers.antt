@@ -1,21 +1,21 @@
 -- `code::kind_end` meets its contract.
+use Rattle.std.proofs.Common.{rules, ap}
+use Rattle.code.specs.Kinds.{number_of}
+use Rattle.code.proofs.KindLaws.{names-two}
 use Rattle.code.proofs.Ends.{ends-goto, ends-if, ends-call, ends_return, ends-names}
-use Rattle.std.proofs.Common.{arith, rules}
 use Rattle.code.proofs.kind_end.Goals as goal
 
-pub returns-in_default : goal.returns-in_default
-returns-in_default c =
-    let k = c.args in
-    ends-names k.s.now k.at k.kind (omega arith) c.after-in_default.ensures c.after-in_default-2.ensures
+pub returns-in-Goto : goal.returns-in-Goto
+returns-in-Goto c = ends-goto _ _ (ap number_of c.in-Goto.is) c.spawn_end.ensures
 
-pub returns-in-0 : goal.returns-in-0
-returns-in-0 c = search (rules, ends-goto)
+pub returns-in-If : goal.returns-in-If
+returns-in-If c = let h = ap number_of c.in-If.is in search (rules, ends-if)
 
-pub returns-in-1 : goal.returns-in-1
-returns-in-1 c = search (rules, ends-if)
+pub returns-in-Call : goal.returns-in-Call
+returns-in-Call c = let h = ap number_of c.in-Call.is in search (rules, ends-call)
 
-pub returns-in-2 : goal.returns-in-2
-returns-in-2 c = search (rules, ends-call)
+pub returns-in-Return : goal.returns-in-Return
+returns-in-Return c = ends_return _ _ (ap number_of c.in-Return.is) c.list_end.ensures
 
-pub returns-in-3 : goal.returns-in-3
-returns-in-3 c = search (rules, ends_return)
+pub returns-in-Spork : goal.returns-in-Spork
+returns-in-Spork c = ends-names _ _ _ (names-two c.in-Spork.is) c.after-in-Spork.ensures c.after-in-Spork-2.ensures

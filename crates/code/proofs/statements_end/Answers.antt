@@ -1,13 +1,16 @@
--- `code::statements_end` meets its contract.
-use Rattle.std.proofs.Common.{sym, refl, ◌∙◌}
-use Rattle.code.proofs.Ends.{statements-goes, statements-none}
+-- `code::statements_end`: where the statements that are passed end.
+use Rattle.std.proofs.Common.{sym, refl, ap, ◌∙◌}
+use Rattle.code.specs.Code.{statement_end, statements_end}
+use Rattle.code.proofs.Ends.{statements-more}
 use Rattle.code.proofs.statements_end.Goals as goal
 
-pub loop-left-init : goal.loop-left-init
-loop-left-init c = refl
+pub statements-init : goal.statements-init
+unfolding statements_end
+statements-init c = refl
 
-pub loop-left-preserved : goal.loop-left-preserved
-loop-left-preserved c = c.loop-left.invariant ∙ statements-goes _ _ _ c.loop-left-test.true ∙ rw c.statement_end-end.ensures
-
-pub returns : goal.returns
-returns c = sym (c.loop-left.invariant ∙ statements-none _ _ _ c.loop-left-test.false)
+pub statements-preserved : goal.statements-preserved
+statements-preserved c =
+    let a = c.args in
+    c.statement_end-end.ensures
+    ∙ ap (statement_end a.s.now) c.statements.invariant
+    ∙ sym (statements-more a.s.now a.at c.statements.counter)

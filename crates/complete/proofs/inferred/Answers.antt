@@ -1,13 +1,16 @@
 -- `complete::inferred` meets its contract.
-use borrow.Author.Rules.{rules}
 use Rattle.complete.proofs.Inferring.{tells-unreached, tells-impossible, tells-completed}
+use borrow.Author.Rules.{rules}
 use Rattle.complete.proofs.inferred.Goals as goal
 
-pub returns-in-Refused : goal.returns-in-Refused
-returns-in-Refused c = search tells-unreached
+pub returns-in_err-reached : goal.returns-in_err-reached
+returns-in_err-reached c = tells-unreached _ _ _ _ _ c.in_err-reached.ensures (search rules)
 
-pub returns-in-Refused-judged : goal.returns-in-Refused-judged
-returns-in-Refused-judged c = search (rules, tells-impossible)
+pub returns-in-Err : goal.returns-in-Err
+returns-in-Err c =
+    tells-impossible _ _ _ _ _ c.in_ok-reached.ensures _ (search rules) c.put_table-length.ensures c.judged.ensures c.in-Err.is
+    c.impossible.ensures
 
-pub returns-in-Given-judged : goal.returns-in-Given-judged
-returns-in-Given-judged c = search (rules, tells-completed)
+pub returns-in-Ok : goal.returns-in-Ok
+returns-in-Ok c =
+    tells-completed _ _ _ _ _ c.in_ok-reached.ensures _ (search rules) c.put_table-length.ensures c.judged.ensures c.in-Ok.is

@@ -2,8 +2,8 @@
 use Rattle.complete.proofs.Functions.{function-nowhere, function-at}
 use Rattle.complete.proofs.put_function.Goals as goal
 
-pub returns-in-Nowhere : goal.returns-in-Nowhere
-returns-in-Nowhere c = search function-nowhere
+pub returns-in_default : goal.returns-in_default
+returns-in_default c = search function-nowhere
 
-pub returns-in-At : goal.returns-in-At
-returns-in-At c = search function-at
+pub returns : goal.returns
+returns c = search function-at

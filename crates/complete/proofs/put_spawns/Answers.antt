@@ -1,13 +1,10 @@
 -- `complete::put_spawns` meets its contract.
-use borrow.Author.Rules.{rules}
-use Rattle.complete.proofs.Placed.{spawns-first, spawns-next, spawns-end}
+use Rattle.std.proofs.Common.{rules}
+use Rattle.model.specs.Write as Write
+use Rattle.complete.proofs.Placed.{all-put, spawns-few}
 use Rattle.complete.proofs.put_spawns.Goals as goal
 
-pub loop-i-init : goal.loop-i-init
-loop-i-init c = (search rules, search rules, search spawns-first)
-
-pub loop-i-preserved : goal.loop-i-preserved
-loop-i-preserved c = (search rules, search rules, search spawns-next)
-
 pub returns : goal.returns
-returns c = search spawns-end
+returns c =
+    all-put c.args.s.now c.args.places.now c.args.f Write.spawn_call (λ F. F.spawns) (λ i d k r d' p. search rules)
+    spawns-few c.put_each.ensures

@@ -1,12 +1,8 @@
 -- `complete::reached` meets its contract.
-use Prim.Native.Nat.{◌-◌, ◌≤◌}
 use mathlib.Core.Path.{◌≡◌}
 use lib.ListN.{length}
 use Rattle.complete.proofs.Reaching.{ReachedFrom}
 use Rattle.complete.proofs.reached.Given as goal
 
 abbrev pub invariant-loop-f : goal.invariant-loop-f
-invariant-loop-f l = (length l.words ≡ length l.initial.words) × (l.f ≤ 16) × ReachedFrom l.s l.places l.transfers l.initial.words l.f
-
-abbrev pub decreases-loop-f : goal.decreases-loop-f
-decreases-loop-f l = 16 - l.f
+invariant-loop-f l = (length l.words ≡ length l.initial.words) × ReachedFrom l.s l.places l.transfers l.initial.words l.f

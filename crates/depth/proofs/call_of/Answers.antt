@@ -2,11 +2,11 @@
 use Rattle.depth.proofs.Transfers.{no_block, calls, calls-nothing}
 use Rattle.depth.proofs.call_of.Goals as goal
 
-pub returns-in-Nowhere : goal.returns-in-Nowhere
-returns-in-Nowhere c = search no_block
+pub returns-in_err-at : goal.returns-in_err-at
+returns-in_err-at c = rw c.from_residual.ensures (search (no_block, c.in_err-at.was))
 
-pub returns-then-byte-eq-CALL : goal.returns-then-byte-eq-CALL
-returns-then-byte-eq-CALL c = search calls
+pub returns-in-Call : goal.returns-in-Call
+returns-in-Call c = search (calls, c.in_ok-at.was)
 
-pub returns-else-byte-eq-CALL : goal.returns-else-byte-eq-CALL
-returns-else-byte-eq-CALL c = search calls-nothing
+pub returns-in_default : goal.returns-in_default
+returns-in_default c = search (calls-nothing, c.in_ok-at.was)

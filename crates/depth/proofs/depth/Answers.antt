@@ -1,12 +1,15 @@
 -- `depth::depth` meets its contract.
-use Rattle.depth.proofs.Tables.{table-refused, table-frames, table-cycle}
+use Rattle.std.proofs.lemmas.Result.{err_from_is_err_and}
+use Rattle.depth.proofs.Tables.{table-refused, table-answered}
 use Rattle.depth.proofs.depth.Goals as goal
 
-pub returns-in-Refused : goal.returns-in-Refused
-returns-in-Refused c = search table-refused
+pub returns-in_err-check_placed : goal.returns-in_err-check_placed
+returns-in_err-check_placed c =
+    let (why, e, d) = err_from_is_err_and c.from_residual.result c.from_residual.ensures.1 in
+    rw (e, d) (search (table-refused, c.in_err-check_placed.was))
 
-pub returns-in-Frames : goal.returns-in-Frames
-returns-in-Frames c = search table-frames
-
-pub returns-in-Endless : goal.returns-in-Endless
-returns-in-Endless c = search table-cycle
+pub returns : goal.returns
+returns c =
+    rw c.ok_or.ensures.value
+    (table-answered _ _ _ _ c.check_placed.ensures c.none-places.ensures c.deepest.result c.in_ok-check_placed.was
+    c.byte.ensures c.deepest.ensures)

@@ -1,5 +1,4 @@
 -- `eval::begin` meets its contract.
-use Prim.Native.Nat.{◌-◌}
 use mathlib.Core.Path.{◌≡◌}
 use lib.ListN.{length}
 use Rattle.eval.proofs.Begins.{BegunAt}
@@ -7,6 +6,3 @@ use Rattle.eval.proofs.begin.Given as goal
 
 abbrev pub invariant-loop-i : goal.invariant-loop-i
 invariant-loop-i l = (length l.ws ≡ length l.initial.ws) × BegunAt l.g l.count l.values l.initial.ws l.k l.ws l.i
-
-abbrev pub decreases-loop-i : goal.decreases-loop-i
-decreases-loop-i l = l.count - l.i

@@ -1,15 +1,10 @@
 -- `eval::worked` meets its contract.
-use Rattle.eval.proofs.Working.{worked-low, worked-high, worked-fits, worked-value}
+use borrow.Author.Rules.{sfits_of}
+use Rattle.eval.proofs.Working.{worked-some, worked-none}
 use Rattle.eval.proofs.worked.Goals as goal
 
-pub returns-then-z-ltminus2147483648 : goal.returns-then-z-ltminus2147483648
-returns-then-z-ltminus2147483648 c = search (worked-low)
+pub returns-in-Some : goal.returns-in-Some
+returns-in-Some c = search (worked-some, sfits_of)
 
-pub overflow_cast-result : goal.overflow_cast-result
-overflow_cast-result c = search (worked-fits)
-
-pub returns-then-z-lt2147483648 : goal.returns-then-z-lt2147483648
-returns-then-z-lt2147483648 c = search (worked-value)
-
-pub returns : goal.returns
-returns c = search (worked-high)
+pub returns-in-None : goal.returns-in-None
+returns-in-None c = search (worked-none)

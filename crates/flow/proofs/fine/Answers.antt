@@ -1,17 +1,9 @@
 -- `flow::fine`: the phase tells the stage.
-use Rattle.std.proofs.Common.{rules}
-use Rattle.flow.specs.declared.Phase.TheVariants.{Taking, Choosing, Stopped, Over}
-use Rattle.flow.proofs.Standing.{tells-fine}
+use Rattle.flow.proofs.Standing.{is-fine, no-fine}
 use Rattle.flow.proofs.fine.Goals as goal
 
-pub returns-in-Taking : goal.returns-in-Taking
-returns-in-Taking c = tells-fine _ Taking (search rules)
-
 pub returns-in-Choosing : goal.returns-in-Choosing
-returns-in-Choosing c = tells-fine _ Choosing (search rules)
+returns-in-Choosing c = is-fine _ c.in-Choosing.is
 
-pub returns-in-Stopped : goal.returns-in-Stopped
-returns-in-Stopped c = tells-fine _ Stopped (search rules)
-
-pub returns-in-Over : goal.returns-in-Over
-returns-in-Over c = tells-fine _ Over (search rules)
+pub returns-in_default : goal.returns-in_default
+returns-in_default c = no-fine _ c.in_default.not-Choosing

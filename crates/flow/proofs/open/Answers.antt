@@ -3,10 +3,10 @@ use Rattle.std.proofs.Common.{rules}
 use Rattle.flow.proofs.Opening.{opens-given, opens-refused}
 use Rattle.flow.proofs.open.Goals as goal
 
-pub returns-in-Given : goal.returns-in-Given
-returns-in-Given c = search (opens-given, rules)
+pub returns-in-Ok : goal.returns-in-Ok
+returns-in-Ok c = search (opens-given, rules)
 
-pub returns-in-Refused : goal.returns-in-Refused
-returns-in-Refused c =
-    opens-refused _ _ _ _ _ _ _ _ c.check_placed.result c.check_placed.ensures _ _ _ _ c.in-Refused.is
-    c.refusal-k.ensures c.line-k.ensures c.run_at-in-Refused.ensures
+pub returns-in-Err : goal.returns-in-Err
+returns-in-Err c =
+    opens-refused _ _ _ _ _ _ _ _ c.check_placed.result c.check_placed.ensures _ _ _ _ c.in-Err.is
+    c.refusal-k.ensures c.line-k.ensures c.run_at-in-Err.ensures

@@ -2,8 +2,8 @@
 use Rattle.infer.proofs.Leading.{count-nowhere, count_at}
 use Rattle.infer.proofs.count.Goals as goal
 
-pub returns-in-Nowhere : goal.returns-in-Nowhere
-returns-in-Nowhere c = search count-nowhere
+pub returns-in-None : goal.returns-in-None
+returns-in-None c = search count-nowhere
 
-pub returns-in-At : goal.returns-in-At
-returns-in-At c = search count_at
+pub returns-in-Some : goal.returns-in-Some
+returns-in-Some c = search count_at

@@ -1,12 +1,11 @@
 -- `infer::joined` meets its contract.
-use lib.Bits.{and_le_l}
 use mathlib.Core.Path.{refl}
 use Rattle.inference.specs.Infer.{joined}
+use Rattle.infer.specs.Needs.{joining}
+use Rattle.infer.proofs.Needing.{without}
+use borrow.Author.Rules.{rules}
 use Rattle.infer.proofs.joined.Goals as goal
 
 pub returns : goal.returns
-unfolding joined
-returns c = refl
-
-pub overflow_sub-result : goal.overflow_sub-result
-overflow_sub-result c = and_le_l _ _
+unfolding joining joined
+returns c = let e = without c.args.n.bound c.args.scope (search rules) c.ranges.scope.fits in rw e refl

@@ -1,16 +1,13 @@
 -- `infer::low` meets its contract.
-use Rattle.infer.proofs.Leading.{low_first, low-next, low-found, low_end}
 use borrow.Author.Rules.{rules}
+use native.Mathlib.Omega.{arith}
+use mathlib.Core.Path.{refl}
+use Rattle.std.proofs.lemmas.Iterator.{YieldsList-from_range}
+use Rattle.std.proofs.lemmas.Iterator.Search.{find_from_yields_List}
+use Rattle.infer.proofs.Leading.{low-is}
 use Rattle.infer.proofs.low.Goals as goal
 
-pub loop-b-init : goal.loop-b-init
-loop-b-init c = (search rules, search low_first)
-
-pub returns-then-level-eq0 : goal.returns-then-level-eq0
-returns-then-level-eq0 c = search low-found
-
-pub loop-b-preserved : goal.loop-b-preserved
-loop-b-preserved c = (search rules, search low-next)
-
 pub returns : goal.returns
-returns c = search low_end
+returns c =
+    let y = YieldsList-from_range 0 c.args.n c.args.n refl (omega arith) in
+    low-is (find_from_yields_List _ _ _ _ c.find.ensures.ran y (λ x b q k. search rules))

@@ -3,11 +3,11 @@ use Rattle.infer.proofs.Owning.{needs-first, needs-next, needs-end}
 use borrow.Author.Rules.{rules}
 use Rattle.infer.proofs.need_all.Goals as goal
 
-pub loop-left-init : goal.loop-left-init
-loop-left-init c = (search rules, search rules, search rules, search needs-first)
+pub loop-b-init : goal.loop-b-init
+loop-b-init c = search (needs-first, rules)
 
-pub loop-left-preserved : goal.loop-left-preserved
-loop-left-preserved c = (search rules, search rules, search rules, search needs-next)
+pub loop-b-preserved : goal.loop-b-preserved
+loop-b-preserved c = search (needs-next, rules)
 
 pub returns : goal.returns
-returns c = search needs-end
+returns c = search (needs-end, rules)

@@ -1,12 +1,13 @@
 -- `infer::nesting_needs` meets its contract.
 use Rattle.infer.proofs.Owning.{nesting-first, nesting-next, nesting-end}
+use borrow.Author.Rules.{rules}
 use Rattle.infer.proofs.nesting_needs.Goals as goal
 
-pub loop-level-init : goal.loop-level-init
-loop-level-init c = search nesting-first
+pub names-init : goal.names-init
+names-init c = search (nesting-first, rules)
 
-pub loop-level-preserved : goal.loop-level-preserved
-loop-level-preserved c = search nesting-next
+pub names-preserved : goal.names-preserved
+names-preserved c = search (nesting-next, rules)
 
 pub returns : goal.returns
-returns c = search nesting-end
+returns c = search (nesting-end, rules)

@@ -1,9 +1,7 @@
 -- `infer::nesting_needs` meets its contract.
+use Prim.Native.Nat.{◌-◌}
 use Rattle.infer.proofs.Owning.{NestingLeft}
 use Rattle.infer.proofs.nesting_needs.Given as goal
 
-abbrev pub invariant-loop-level : goal.invariant-loop-level
-invariant-loop-level l = NestingLeft l.s l.places l.f l.initial.level l.initial.names l.needs l.level l.names l.more
-
-abbrev pub decreases-loop-level : goal.decreases-loop-level
-decreases-loop-level l = l.level
+abbrev pub invariant-names : goal.invariant-names
+invariant-names l = NestingLeft l.s l.places l.f l.fn.n l.initial.more (l.end - l.counter) l.names l.more

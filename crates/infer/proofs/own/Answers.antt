@@ -2,8 +2,8 @@
 use Rattle.infer.proofs.Owning.{own-nowhere, own_at}
 use Rattle.infer.proofs.own.Goals as goal
 
-pub returns-in-Nowhere : goal.returns-in-Nowhere
-returns-in-Nowhere c = search own-nowhere
+pub returns-in-None : goal.returns-in-None
+returns-in-None c = search own-nowhere
 
-pub returns-in-At : goal.returns-in-At
-returns-in-At c = search own_at
+pub returns-in-Some : goal.returns-in-Some
+returns-in-Some c = search own_at

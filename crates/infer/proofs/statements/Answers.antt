@@ -1,9 +1,10 @@
 -- `infer::statements` meets its contract.
-use Rattle.infer.proofs.Needing.{walk_end, walk-next}
+use Rattle.infer.proofs.Needing.{walk-end, walk-next}
+use borrow.Author.Rules.{rules}
 use Rattle.infer.proofs.statements.Goals as goal
 
-pub loop-left-preserved : goal.loop-left-preserved
-loop-left-preserved c = search walk-next
+pub statements-preserved : goal.statements-preserved
+statements-preserved c = search (walk-next, rules)
 
 pub returns : goal.returns
-returns c = search walk_end
+returns c = search (walk-end, rules)

@@ -1,12 +1,12 @@
 -- `infer::under` meets its contract.
-use Rattle.infer.proofs.Marking.{under_stays, under-opens, under-closes}
+use Rattle.infer.proofs.Marking.{under-stays, under-opens, under-closes}
 use Rattle.infer.proofs.under.Goals as goal
 
-pub returns-then-kind-lt4 : goal.returns-then-kind-lt4
-returns-then-kind-lt4 c = search under_stays
+pub returns-in-Goto : goal.returns-in-Goto
+returns-in-Goto c = search under-stays
 
-pub returns-then-kind-eq4 : goal.returns-then-kind-eq4
-returns-then-kind-eq4 c = search under-opens
+pub returns-in-Spork : goal.returns-in-Spork
+returns-in-Spork c = search under-opens
 
-pub returns-else-kind-eq4 : goal.returns-else-kind-eq4
-returns-else-kind-eq4 c = search under-closes
+pub returns-in-Spoin : goal.returns-in-Spoin
+returns-in-Spoin c = search under-closes

@@ -2,11 +2,11 @@
 use Rattle.kept.proofs.Names.{called-one, called-spork, called-none}
 use Rattle.kept.proofs.called.Goals as goal
 
-pub returns-in-2 : goal.returns-in-2
-returns-in-2 c = search called-one
+pub returns-in-Call : goal.returns-in-Call
+returns-in-Call c = search called-one
 
-pub returns-in-4 : goal.returns-in-4
-returns-in-4 c = search called-spork
+pub returns-in-Spork : goal.returns-in-Spork
+returns-in-Spork c = search called-spork
 
-pub returns-in_default : goal.returns-in_default
-returns-in_default c = search called-none
+pub returns-in-Goto : goal.returns-in-Goto
+returns-in-Goto c = search called-none

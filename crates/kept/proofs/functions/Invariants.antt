@@ -1,14 +1,6 @@
 -- `kept::functions` meets its contract.
-use Prim.Native.Nat.{◌-◌, ◌<◌}
-use mathlib.Core.Path.{◌≡◌}
-use lib.ListN.{length}
-use Rattle.places.specs.Layout as Layout
 use Rattle.kept.proofs.Ends.{FunctionsLeft}
 use Rattle.kept.proofs.functions.Given as goal
 
 abbrev pub invariant-loop-i : goal.invariant-loop-i
-invariant-loop-i l = (length l.list ≡ length l.initial.list) × (l.n < 256)
-    × FunctionsLeft l.s l.places l.transfers l.initial.list l.initial.n l.list l.n l.i
-
-abbrev pub decreases-loop-i : goal.decreases-loop-i
-decreases-loop-i l = Layout.functions - l.i
+invariant-loop-i l = FunctionsLeft l.s l.places l.transfers l.list l.i

@@ -2,8 +2,8 @@
 use Rattle.kept.proofs.Names.{functions-nowhere, functions-at}
 use Rattle.kept.proofs.functions_in.Goals as goal
 
-pub returns-in-Nowhere : goal.returns-in-Nowhere
-returns-in-Nowhere c = search functions-nowhere
+pub returns-in_default : goal.returns-in_default
+returns-in_default c = search functions-nowhere
 
-pub returns-in-At : goal.returns-in-At
-returns-in-At c = search functions-at
+pub returns-in-Some : goal.returns-in-Some
+returns-in-Some c = search functions-at

@@ -2,8 +2,8 @@
 use Rattle.kept.proofs.Names.{spawned-nowhere, spawned-at}
 use Rattle.kept.proofs.spawned.Goals as goal
 
-pub returns-in-Nowhere : goal.returns-in-Nowhere
-returns-in-Nowhere c = search spawned-nowhere
+pub returns-in_default : goal.returns-in_default
+returns-in_default c = search spawned-nowhere
 
-pub returns-in-At : goal.returns-in-At
-returns-in-At c = search spawned-at
+pub returns-in-Some : goal.returns-in-Some
+returns-in-Some c = search spawned-at

@@ -2,8 +2,8 @@
 use Rattle.kept.proofs.Names.{spawns-nowhere, spawns-at}
 use Rattle.kept.proofs.spawns_in.Goals as goal
 
-pub returns-in-Nowhere : goal.returns-in-Nowhere
-returns-in-Nowhere c = search spawns-nowhere
+pub returns-in_default : goal.returns-in_default
+returns-in_default c = search spawns-nowhere
 
-pub returns-in-At : goal.returns-in-At
-returns-in-At c = search spawns-at
+pub returns-in-Some : goal.returns-in-Some
+returns-in-Some c = search spawns-at

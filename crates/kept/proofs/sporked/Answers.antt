@@ -2,8 +2,8 @@
 use Rattle.kept.proofs.Names.{sporked-none, sporked-one}
 use Rattle.kept.proofs.sporked.Goals as goal
 
-pub returns-then-byte-eq-SPORK : goal.returns-then-byte-eq-SPORK
-returns-then-byte-eq-SPORK c = search sporked-one
+pub returns-in-Spork : goal.returns-in-Spork
+returns-in-Spork c = search sporked-one
 
-pub returns-else-byte-eq-SPORK : goal.returns-else-byte-eq-SPORK
-returns-else-byte-eq-SPORK c = search sporked-none
+pub returns-in_default : goal.returns-in_default
+returns-in_default c = search sporked-none

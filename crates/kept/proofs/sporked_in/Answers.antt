@@ -2,8 +2,8 @@
 use Rattle.kept.proofs.Names.{transfer-nowhere, transfer-names}
 use Rattle.kept.proofs.sporked_in.Goals as goal
 
-pub returns-in-Nowhere : goal.returns-in-Nowhere
-returns-in-Nowhere c = search transfer-nowhere
+pub returns-in_default : goal.returns-in_default
+returns-in_default c = search transfer-nowhere
 
-pub returns-in-At : goal.returns-in-At
-returns-in-At c = search transfer-names
+pub returns-in-Some : goal.returns-in-Some
+returns-in-Some c = search transfer-names

@@ -1,20 +1,14 @@
 -- `lend::pool` meets its contract.
+use mathlib.Core.Path.{refl}
+use borrow.Author.Rules.{rules}
 use Rattle.lend.proofs.Lending.{pool-unlent, pool-given, pool-refused}
 use Rattle.lend.proofs.pool.Goals as goal
 
-pub returns-in-Refused : goal.returns-in-Refused
-returns-in-Refused c =
-    let words = c.words in
-    pool-unlent _ _ _ _ words.result words.ensures _ c.in-Refused.is
+pub returns-in_err-words : goal.returns-in_err-words
+returns-in_err-words c = pool-unlent _ _ _ _ _ _ c.in_err-words.ensures (search rules)
 
-pub returns-then-is_pool : goal.returns-then-is_pool
-returns-then-is_pool c =
-    let words = c.words in
-    pool-given _ _ _ _ words.result words.ensures c.in-Given.is c.is_pool.result c.is_pool.ensures
-    c.if-is_pool.true
+pub returns-then-not-is_pool : goal.returns-then-not-is_pool
+returns-then-not-is_pool c = pool-refused _ _ _ _ c.in_ok-words.ensures _ c.is_pool.ensures _ refl c.if-not-is_pool.true
 
-pub returns-else-is_pool : goal.returns-else-is_pool
-returns-else-is_pool c =
-    let words = c.words in
-    pool-refused _ _ _ _ words.result words.ensures c.in-Given.is c.is_pool.result c.is_pool.ensures
-    c.if-is_pool.false
+pub returns : goal.returns
+returns c = pool-given _ _ _ _ c.in_ok-words.ensures _ c.is_pool.ensures c.if-not-is_pool.false

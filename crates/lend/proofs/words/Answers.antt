@@ -1,18 +1,15 @@
 -- `lend::words` meets its contract.
+use mathlib.Core.Path.{refl}
+use native.Mathlib.Omega.{arith}
+use borrow.Author.Rules.{rules}
 use Rattle.lend.proofs.Lending.{words-unread, words-given, words-refused}
 use Rattle.lend.proofs.words.Goals as goal
 
-pub returns-in-Refused : goal.returns-in-Refused
-returns-in-Refused c =
-    let read = c.read in
-    words-unread _ _ _ _ read.result read.ensures _ c.in-Refused.is
+pub returns-in_err-read : goal.returns-in_err-read
+returns-in_err-read c = words-unread _ _ _ _ _ _ c.in_err-read.ensures (search rules)
 
-pub returns-then-pool-eq-WORDS : goal.returns-then-pool-eq-WORDS
-returns-then-pool-eq-WORDS c =
-    let read = c.read in
-    words-given _ _ _ _ read.result read.ensures c.in-Given.is c.if-pool-eq-WORDS.true
+pub returns-then-pool-ne-WORDS : goal.returns-then-pool-ne-WORDS
+returns-then-pool-ne-WORDS c = words-refused _ _ _ _ c.in_ok-read.ensures _ refl c.if-pool-ne-WORDS.true
 
-pub returns-else-pool-eq-WORDS : goal.returns-else-pool-eq-WORDS
-returns-else-pool-eq-WORDS c =
-    let read = c.read in
-    words-refused _ _ _ _ read.result read.ensures c.in-Given.is c.if-pool-eq-WORDS.false
+pub returns : goal.returns
+returns c = words-given _ _ _ _ c.in_ok-read.ensures (omega arith)

@@ -1,9 +1,15 @@
 -- `lines::result`: main's values, or that they are open.
 use Rattle.lines.proofs.Spelt.{given, left_open}
+use Rattle.lines.proofs.result.Goals.{in-Some, in-None}
 use Rattle.lines.proofs.result.Goals as goal
 
-pub returns-then-main : goal.returns-then-main
-returns-then-main c = given _ _ _ _ _ _ _ _ c.args.main c.if-main.true c.bytes-k.ensures c.values-k.ensures c.line.ensures
-
 pub returns : goal.returns
-returns c = left_open _ _ _ _ _ _ _ _ c.args.main c.if-main.false c.bytes-k.ensures c.bytes-k-2.ensures c.line-2.ensures
+returns c =
+    elim c.match-main.branch [
+      | in-Some w ↦
+          rw w.in-Some.is
+          (given _ _ _ _ _ _ _ _ w.in-Some.v c.bytes-k.ensures w.values-k.ensures (rw (w.out-is, w.k-is) at c.line.ensures))
+      | in-None w ↦
+          rw w.in-None.is
+          (left_open _ _ _ _ _ _ _ _ c.bytes-k.ensures w.bytes-k-in-None.ensures (rw (w.out-is, w.k-is) at c.line.ensures))
+    ]

@@ -1,19 +1,13 @@
--- `listing::children`: the promoted calls of the frames passed so far, from the newest on.
-use mathlib.Core.Path.{refl}
+-- `listing::children`: the promoted calls of the frames passed so far, from the oldest on.
 use native.Mathlib.Omega.{arith}
-use borrow.Author.Rules.{rules}
 use Rattle.listing.proofs.Frames.{counted_none, counted-one, counted-all}
 use Rattle.listing.proofs.children.Goals as goal
 
-pub loop-left-init : goal.loop-left-init
-loop-left-init c = (omega arith, omega arith, counted_none _ _ c.frame_count-left.ensures)
+pub loop-frame-init : goal.loop-frame-init
+loop-frame-init c = (omega arith, counted_none _ _)
 
-pub loop-left-preserved : goal.loop-left-preserved
-loop-left-preserved c = (
-  search rules,
-  omega arith,
-  counted-one _ _ c.loop-left.invariant.2 (search rules) c.loop-left.invariant.0 refl c.frame_start.ensures c.promoted.ensures,
-)
+pub loop-frame-preserved : goal.loop-frame-preserved
+loop-frame-preserved c = (omega arith, counted-one _ _ c.loop-frame.invariant.1 c.frame_start.ensures c.promoted.ensures)
 
 pub returns : goal.returns
-returns c = counted-all _ _ c.loop-left.invariant.2 (search rules)
+returns c = counted-all _ _ c.loop-frame.invariant.1 c.frame_count-frame-end.ensures (omega arith)

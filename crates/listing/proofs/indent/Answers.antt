@@ -1,18 +1,14 @@
 -- `listing::indent`: so many spaces are left.
-use mathlib.Core.Path.{refl}
 use borrow.Author.Rules.{rules}
 use Rattle.puts.proofs.Left.{all_left}
-use Rattle.listing.proofs.Texts.{one-space, no-space}
+use Rattle.listing.proofs.Texts.{all-spaces, one-space, no-space}
 use Rattle.listing.proofs.indent.Goals as goal
 
-pub loop-left-preserved : goal.loop-left-preserved
-loop-left-preserved c = (
-  search rules,
-  one-space c.loop-left.left (search rules) c.loop-left.invariant.1 c.byte-k.ensures,
-)
+pub levels-init : goal.levels-init
+levels-init c = all-spaces _ all_left
+
+pub levels-preserved : goal.levels-preserved
+levels-preserved c = search (one-space, rules)
 
 pub returns : goal.returns
-returns c = no-space c.loop-left.left (search rules) c.loop-left.invariant.1
-
-pub loop-left-init : goal.loop-left-init
-loop-left-init c = (refl, all_left)
+returns c = search (no-space, rules)

@@ -5,6 +5,6 @@ use Rattle.pool.proofs.add_thread.Goals as goal
 
 pub returns : goal.returns
 returns c =
-    was-added c.args.ws.now c.args.thread _ _ _ _ _ _ _ c.requires.2 c.thread_count-n.ensures c.thread_start-at.ensures
+    was-added c.args.ws.now c.args.thread _ _ _ _ _ _ _ c.requires.1 c.thread_count-n.ensures c.thread_start-at.ensures
     c.thread_start-end.ensures c.set_count.ensures c.move_run.ensures
     (omega (arith, c.move_run.auto.d, c.set_count.auto.ws)) c.clear.ensures c.set_count-2.ensures

@@ -7,4 +7,4 @@ pub returns : goal.returns
 returns c =
     let n = c.frame_count-n.ensures in
     was-popped c.args.ws.now c.args.thread _ _ _ _ _ n c.thread_start-at.ensures c.set_count.ensures
-    (omega (arith, n, c.requires.3)) c.clear.ensures
+    (omega (arith, n, c.requires.2)) c.clear.ensures

@@ -1,10 +1,14 @@
--- `puts::bytes`: nothing fits, all fits, or a part.
-use borrow.Author.Rules.{rules}
-use Rattle.puts.proofs.Stores.{dropped, fitted}
+-- `puts::bytes`: a first part fits, or nothing does.
+use Rattle.std.proofs.Common.{rules}
+use Rattle.puts.proofs.Stores.{dropped, stored}
+use Rattle.puts.proofs.bytes.Goals.{then-at-out, else-at-out}
 use Rattle.puts.proofs.bytes.Goals as goal
 
-pub returns-then-out-at : goal.returns-then-out-at
-returns-then-out-at c = dropped _ _ _ _ (search rules) c.further.ensures
-
-pub returns-then-s-out : goal.returns-then-s-out
-returns-then-s-out c = fitted _ _ _ (search rules) c.copy.ensures
+pub returns : goal.returns
+returns c =
+    elim c.if-at-out.branch [
+      | then-at-out w ↦
+          rw w.out-is
+          (stored _ _ _ w.min-n.result (search rules) w.min-n.ensures w.copy.ensures c.saturating_add.ensures)
+      | else-at-out w ↦ rw w.out-is (dropped _ _ _ (search rules) c.saturating_add.ensures)
+    ]

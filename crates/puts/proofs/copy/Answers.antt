@@ -1,23 +1,18 @@
 -- `puts::copy`: the loop has put the first i bytes so far.
 use Prim.Native.Nat.{◌+◌}
 use native.Mathlib.Omega.{arith}
-use mathlib.Core.Path.{refl}
 use lib.ListN.{get_or, length-set}
 use Rattle.puts.proofs.Stores.{one_more, all-put}
 use Rattle.puts.proofs.copy.Goals as goal
 
-pub loop-i-init : goal.loop-i-init
-loop-i-init c = (omega arith, refl, refl)
-
 pub loop-i-preserved : goal.loop-i-preserved
 loop-i-preserved c =
     let args = c.args in (
-      omega arith,
       omega (arith, length-set c.loop-i.out (args.at + c.loop-i.i) (get_or args.s.now c.loop-i.i 0)),
-      one_more args.out.now args.at args.s.now c.loop-i.i c.loop-i.invariant.2 (omega arith),
+      one_more args.out.now args.at args.s.now c.loop-i.i c.loop-i.invariant.1 (omega arith),
     )
 
 pub returns : goal.returns
 returns c =
     let args = c.args in
-    all-put args.out.now args.at args.s.now c.loop-i.i c.loop-i.invariant.2 (omega arith)
+    all-put args.out.now args.at args.s.now c.loop-i.i c.loop-i.invariant.1 (omega arith)

@@ -1,12 +1,12 @@
 -- `puts::stretch` meets its contract.
-use Rattle.puts.proofs.Parts.{turned, outside, inside}
+use Rattle.puts.proofs.Parts.{outside, inside}
+use Rattle.puts.proofs.Laws.{same}
 use Rattle.puts.proofs.stretch.Goals as goal
 
-pub returns-then-to-from : goal.returns-then-to-from
-returns-then-to-from c = search (turned)
+pub returns-in-Some : goal.returns-in-Some
+returns-in-Some c =
+    let h = c.in-Some.ensures.lookup.0 in
+    inside _ _ _ h.0 h.1 (same c.bytes.ensures h.2)
 
-pub returns-then-s-to : goal.returns-then-s-to
-returns-then-s-to c = search (outside)
-
-pub returns : goal.returns
-returns c = search (inside)
+pub returns-in-None : goal.returns-in-None
+returns-in-None c = outside _ _ _ c.in-None.ensures.lookup.0

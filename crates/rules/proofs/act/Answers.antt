@@ -2,8 +2,8 @@
 use Rattle.rules.proofs.Steps.{acts-coming, acts-nowhere}
 use Rattle.rules.proofs.act.Goals as goal
 
-pub returns-in-At : goal.returns-in-At
-returns-in-At c = search (acts-coming)
+pub returns-in_default : goal.returns-in_default
+returns-in_default c = search (acts-nowhere)
 
-pub returns-in-Nowhere : goal.returns-in-Nowhere
-returns-in-Nowhere c = search (acts-nowhere)
+pub returns : goal.returns
+returns c = search (acts-coming)

@@ -5,8 +5,8 @@ use Rattle.rules.proofs.ending.Goals as goal
 pub returns-then-done-n : goal.returns-then-done-n
 returns-then-done-n c = search (ending-stmt)
 
-pub returns-then-byte-ne3 : goal.returns-then-byte-ne3
-returns-then-byte-ne3 c = search (ending-other)
+pub returns-in_default : goal.returns-in_default
+returns-in_default c = search (ending-other)
 
 pub returns-then-opened-ne0 : goal.returns-then-opened-ne0
 returns-then-opened-ne0 c = search (ending-open)

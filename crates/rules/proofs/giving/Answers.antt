@@ -2,8 +2,8 @@
 use Rattle.rules.proofs.Endings.{giving-at, giving-nowhere}
 use Rattle.rules.proofs.giving.Goals as goal
 
-pub returns-in-At : goal.returns-in-At
-returns-in-At c = search (giving-at)
+pub returns-in_err-at : goal.returns-in_err-at
+returns-in_err-at c = let h = c.in_err-at.was in rw c.from_residual.ensures (search (giving-nowhere))
 
-pub returns-in-Nowhere : goal.returns-in-Nowhere
-returns-in-Nowhere c = search (giving-nowhere)
+pub returns : goal.returns
+returns c = let h = c.in_ok-at.was in search (giving-at)

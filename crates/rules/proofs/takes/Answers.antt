@@ -2,8 +2,8 @@
 use Rattle.rules.proofs.Heads.{takes_at, takes_none}
 use Rattle.rules.proofs.takes.Goals as goal
 
-pub returns-in-At : goal.returns-in-At
-returns-in-At c = search (takes_at)
+pub returns-in-Some : goal.returns-in-Some
+returns-in-Some c = search (takes_at)
 
-pub returns-in-Nowhere : goal.returns-in-Nowhere
-returns-in-Nowhere c = search (takes_none)
+pub returns-in-None : goal.returns-in-None
+returns-in-None c = search (takes_none)

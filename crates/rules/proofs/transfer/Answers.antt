@@ -1,27 +1,32 @@
 -- `rules::transfer` meets its contract.
 use Rattle.code.specs.Code.{transfer_of}
-use Rattle.rules.proofs.Steps.{transfer-by, transfer-last}
+use Rattle.rules.proofs.Steps.{transfer-by, transfer-if}
 use Rattle.rules.proofs.transfer.Goals as goal
 
-pub returns-in-0 : goal.returns-in-0
+pub returns-in-Goto : goal.returns-in-Goto
 unfolding transfer_of
-returns-in-0 c =
-    transfer-by _ _ c.byte.ensures c.after-first.ensures _ _ _ _ _ 0 c.in-0.is c.goto.ensures
+returns-in-Goto c =
+    transfer-by _ _ c.kind_at.ensures c.after-first.ensures _ _ _ _ _ _ c.in-Goto.is c.goto.ensures
 
-pub returns-in-2 : goal.returns-in-2
+pub returns-in-If : goal.returns-in-If
+returns-in-If c = search transfer-if
+
+pub returns-in-Call : goal.returns-in-Call
 unfolding transfer_of
-returns-in-2 c =
-    transfer-by _ _ c.byte.ensures c.after-first.ensures _ _ _ _ _ 2 c.in-2.is c.call.ensures
+returns-in-Call c =
+    transfer-by _ _ c.kind_at.ensures c.after-first.ensures _ _ _ _ _ _ c.in-Call.is c.call.ensures
 
-pub returns-in-3 : goal.returns-in-3
+pub returns-in-Return : goal.returns-in-Return
 unfolding transfer_of
-returns-in-3 c =
-    transfer-by _ _ c.byte.ensures c.after-first.ensures _ _ _ _ _ 3 c.in-3.is (c.give_back.ensures _)
+returns-in-Return c =
+    transfer-by _ _ c.kind_at.ensures c.after-first.ensures _ _ _ _ _ _ c.in-Return.is (c.give_back.ensures _)
 
-pub returns-in-4 : goal.returns-in-4
+pub returns-in-Spork : goal.returns-in-Spork
 unfolding transfer_of
-returns-in-4 c =
-    transfer-by _ _ c.byte.ensures c.after-first.ensures _ _ _ _ _ 4 c.in-4.is (c.spork.ensures.is _)
+returns-in-Spork c =
+    transfer-by _ _ c.kind_at.ensures c.after-first.ensures _ _ _ _ _ _ c.in-Spork.is (c.spork.ensures.is _)
 
-pub returns-in_default : goal.returns-in_default
-returns-in_default c = search (transfer-last)
+pub returns-in-Spoin : goal.returns-in-Spoin
+unfolding transfer_of
+returns-in-Spoin c =
+    transfer-by _ _ c.kind_at.ensures c.after-first.ensures _ _ _ _ _ _ c.in-Spoin.is (c.spoin-in-Spoin.ensures.is _)

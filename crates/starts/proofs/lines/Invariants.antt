@@ -1,15 +1,8 @@
 -- `starts::lines`: the loop has put the lines of the threads before this one.
-use Prim.Native.Nat.{◌-◌, ◌≤◌}
-use mathlib.Core.Path.{◌≡◌}
-use lib.ListN.{length}
-use Rattle.model.specs.Pool.{most_threads}
 use Rattle.puts.specs.Puts.{Puts}
 use Rattle.starts.specs.Starts.{in_turn}
 use Rattle.starts.proofs.Printed.{of_thread}
 use Rattle.starts.proofs.lines.Given as goal
 
 abbrev pub invariant-loop-thread : goal.invariant-loop-thread
-invariant-loop-thread l = (l.thread ≤ most_threads) × (length l.out ≡ length l.initial.out) × Puts l.initial.out 0 (in_turn l.thread of_thread) l.k l.out
-
-abbrev pub decreases-loop-thread : goal.decreases-loop-thread
-decreases-loop-thread l = most_threads - l.thread
+invariant-loop-thread l = Puts l.initial.out 0 (in_turn l.thread of_thread) l.k l.out

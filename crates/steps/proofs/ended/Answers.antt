@@ -1,12 +1,9 @@
 use borrow.Author.Rules.{rules}
-use Rattle.steps.proofs.Deciding.{ends-given, ends-runs}
+use Rattle.steps.proofs.Deciding.{ends-given, ends-none}
 use Rattle.steps.proofs.ended.Goals as goal
 
-pub returns-in-Gives : goal.returns-in-Gives
-returns-in-Gives c =
-    ends-given c.returned-r.new.out c.returned-r.result c.returned-r.ensures
-    c.in-Gives.is (search rules)
+pub returns-in_err-count : goal.returns-in_err-count
+returns-in_err-count c = ends-none _ c.returned.result c.returned.ensures c.in_err-count.was (search rules)
 
-pub returns-in-Runs : goal.returns-in-Runs
-returns-in-Runs c =
-    ends-runs _ c.returned-r.result c.returned-r.ensures c.in-Runs.is
+pub returns : goal.returns
+returns c = ends-given _ c.returned.result c.returned.ensures c.in_ok-count.was (search rules)

@@ -4,8 +4,8 @@ use Rattle.steps.proofs.pop.Goals as goal
 
 pub returns-then-frame_count-gt1 : goal.returns-then-frame_count-gt1
 returns-then-frame_count-gt1 c =
-    was-popped _ _ _ _ c.pop_frame.ensures c.requires.2 refl
+    was-popped _ c.args.entry _ c.pop_frame.ensures c.requires.1 refl
     c.arrive.ensures
 
 pub returns-else-frame_count-gt1 : goal.returns-else-frame_count-gt1
-returns-else-frame_count-gt1 c = not_popped _ _ _ _ c.frame_count.ensures c.if-frame_count-gt1.false
+returns-else-frame_count-gt1 c = not_popped _ c.args.entry _ c.frame_count.ensures c.if-frame_count-gt1.false

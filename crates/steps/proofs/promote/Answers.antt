@@ -1,24 +1,20 @@
 use borrow.Author.Rules.{rules}
-use Rattle.model.proofs.Facts.{not-true, not-false}
 use Rattle.steps.proofs.Applying.{promotes-none, promotes-full, promotes-unmet, promotes-made}
-use Rattle.steps.proofs.Others.{no-push}
 use Rattle.steps.proofs.promote.Goals as goal
 
-pub returns-then-not-o : goal.returns-then-not-o
-returns-then-not-o c = promotes-none c.oldest-o.result c.oldest-o.ensures.finds (not-true _ c.if-not-o.true)
+pub returns-in_err-o : goal.returns-in_err-o
+returns-in_err-o c = promotes-none c.oldest.result c.oldest.ensures.finds c.in_err-o.ensures.ok_part (search rules)
 
 pub returns-then-thread_count-ge-THREADS : goal.returns-then-thread_count-ge-THREADS
 returns-then-thread_count-ge-THREADS c =
-    promotes-full c.oldest-o.result c.oldest-o.ensures.finds (not-false _ c.if-not-o.false)
-    c.thread_count.ensures (search rules)
-
-pub returns-in-Push : goal.returns-in-Push
-returns-in-Push c =
-    promotes-made c.oldest-o.result c.oldest-o.ensures.finds (not-false _ c.if-not-o.false)
-    c.thread_count.ensures _ _ c.child-a.result (search rules) c.child-a.ensures _
-    c.in-Push.is c.spawn.ensures
+    promotes-full c.oldest.result c.oldest.ensures.finds c.in_ok-o.o c.in_ok-o.ensures.ok_part c.thread_count.ensures (search rules)
 
 pub returns-in_default : goal.returns-in_default
 returns-in_default c =
-    promotes-unmet c.oldest-o.result c.oldest-o.ensures.finds (not-false _ c.if-not-o.false)
-    c.thread_count.ensures _ _ c.child-a.result (search rules) c.child-a.ensures (no-push _ c.in_default.not-Push)
+    promotes-unmet c.oldest.result c.oldest.ensures.finds c.in_ok-o.o c.in_ok-o.ensures.ok_part
+    c.thread_count.ensures _ _ c.child.result (search rules) c.child.ensures (λ d. c.in_default.not-Ok d)
+
+pub returns : goal.returns
+returns c =
+    promotes-made c.oldest.result c.oldest.ensures.finds c.in_ok-o.o c.in_ok-o.ensures.ok_part
+    c.thread_count.ensures _ _ c.child.result (search rules) c.child.ensures c.in-Ok.is c.spawn.ensures

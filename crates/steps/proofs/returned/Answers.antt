@@ -7,4 +7,4 @@ returns-then-frame_count-ne1 c = brings-deep c.frame_count.ensures _ c.if-frame_
 pub returns : goal.returns
 returns c =
     brings-given c.frame_count.ensures _ _ c.giving.result c.if-frame_count-ne1.false
-    c.frame_start-k.ensures c.giving.ensures
+    c.frame_start.ensures c.giving.ensures

@@ -8,7 +8,7 @@ pub returns : goal.returns
 returns c =
     let s = c.args.s.now in
     let field : c.number-field.result ≡ word_at s 0 = cc in
-    let version : c.byte-version.result ≡ byte_at s (past 0 4) = cc in
+    let number : c.byte-number.result ≡ byte_at s (past 0 4) = cc in
     let src : c.moved.result.src.now ≡ s = cc in
     let at : c.moved.result.at ≡ past (past 0 4) 1 = cc in
-    read_through c.args.brief s _ _ _ _ _ field version (rw (src, at) at c.functions.ensures)
+    read_through c.args.version s _ _ _ _ _ field number (rw (src, at) at c.functions.ensures)

@@ -1,18 +1,31 @@
 -- `targets::branch` meets its contract.
+use Rattle.bound.proofs.Exits.{lacks, found}
 use Rattle.targets.proofs.Judged.{if-unbound, if-missing, if-missing-2, if-both}
 use Rattle.targets.proofs.branch.Goals as goal
 
-pub returns-in-There-block_of : goal.returns-in-There-block_of
-returns-in-There-block_of c =
-    if-both _ _ _ _ c.expression.ensures _ c.in-Bound.is c.byte.ensures
-    c.block_of.ensures _ c.in-There.is c.after.ensures c.byte-in-There.ensures
-    c.block_of-in-There.ensures c.both.result c.in-There-block_of.is c.both.ensures
+pub returns-in_err-k : goal.returns-in_err-k
+returns-in_err-k c =
+    let (z, e) = lacks c.expression.result c.from_residual.result c.ok_or.ensures.value c.in_err-k.was c.from_residual.ensures.1 in
+    rw e (search if-unbound)
 
-pub returns-in-Unbound : goal.returns-in-Unbound
-returns-in-Unbound c = search if-unbound
+pub returns-in_err-h : goal.returns-in_err-h
+returns-in_err-h c =
+    let k = found c.ok_or.ensures.ok_part c.in_ok-k.was in
+    let (z, e) = lacks c.block_of.result c.from_residual-in_err-h.result c.ok_or-2.ensures.value c.in_err-h.was
+    c.from_residual-in_err-h.ensures.1 in
+    rw e (search if-missing)
 
-pub returns-in-Missing : goal.returns-in-Missing
-returns-in-Missing c = search if-missing
+pub returns-in_err-j : goal.returns-in_err-j
+returns-in_err-j c =
+    let k = found c.ok_or.ensures.ok_part c.in_ok-k.was in
+    let h = found c.ok_or-2.ensures.ok_part c.in_ok-h.was in
+    let (z, e) = lacks c.block_of-2.result c.from_residual-in_err-j.result c.ok_or-3.ensures.value c.in_err-j.was
+    c.from_residual-in_err-j.ensures.1 in
+    rw e (search if-missing-2)
 
-pub returns-in-Missing-block_of : goal.returns-in-Missing-block_of
-returns-in-Missing-block_of c = search if-missing-2
+pub returns : goal.returns
+returns c =
+    let k = found c.ok_or.ensures.ok_part c.in_ok-k.was in
+    let h = found c.ok_or-2.ensures.ok_part c.in_ok-h.was in
+    let j = found c.ok_or-3.ensures.ok_part c.in_ok-j.was in
+    search if-both

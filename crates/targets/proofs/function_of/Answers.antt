@@ -2,8 +2,8 @@
 use Rattle.targets.proofs.Lookups.{callee-none, callee-there}
 use Rattle.targets.proofs.function_of.Goals as goal
 
-pub returns-in-Nowhere : goal.returns-in-Nowhere
-returns-in-Nowhere c = search callee-none
+pub returns-in_err-at : goal.returns-in_err-at
+returns-in_err-at c = rw c.from_residual.ensures (search (callee-none, c.in_err-at.was))
 
-pub returns-in-At : goal.returns-in-At
-returns-in-At c = search callee-there
+pub returns : goal.returns
+returns c = search (callee-there, c.in_ok-at.was)

@@ -2,14 +2,14 @@
 use Rattle.targets.proofs.Nestings.{target}
 use Rattle.targets.proofs.grown.Goals as goal
 
-pub returns-then-part : goal.returns-then-part
-returns-then-part c = search target depth 14 fits 6000
+pub returns-then-h-ne0 : goal.returns-then-h-ne0
+returns-then-h-ne0 c = search target depth 14 fits 6000
 
-pub returns-else-part : goal.returns-else-part
-returns-else-part c = search target depth 14 fits 6000
+pub returns-then-not-adds : goal.returns-then-not-adds
+returns-then-not-adds c = search target depth 14 fits 6000
 
-pub returns-else-adds : goal.returns-else-adds
-returns-else-adds c = search target depth 14 fits 6000
+pub returns-then-not-part : goal.returns-then-not-part
+returns-then-not-part c = search target depth 14 fits 6000
 
-pub returns-else-h-eq0 : goal.returns-else-h-eq0
-returns-else-h-eq0 c = search target depth 14 fits 6000
+pub returns : goal.returns
+returns c = search target depth 14 fits 6000

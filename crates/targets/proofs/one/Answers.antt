@@ -2,14 +2,14 @@
 use Rattle.targets.proofs.Nestings.{target}
 use Rattle.targets.proofs.one.Goals as goal
 
-pub returns-then-part : goal.returns-then-part
-returns-then-part c = search target depth 14 fits 6000
+pub returns-then-h-n : goal.returns-then-h-n
+returns-then-h-n c = search target depth 14 fits 6000
 
-pub returns-else-part : goal.returns-else-part
-returns-else-part c = search target depth 14 fits 6000
+pub returns-then-not-keeps : goal.returns-then-not-keeps
+returns-then-not-keeps c = search target depth 14 fits 6000
 
-pub returns-else-keeps : goal.returns-else-keeps
-returns-else-keeps c = search target depth 14 fits 6000
+pub returns-then-not-part : goal.returns-then-not-part
+returns-then-not-part c = search target depth 14 fits 6000
 
-pub returns-else-h-n : goal.returns-else-h-n
-returns-else-h-n c = search target depth 14 fits 6000
+pub returns : goal.returns
+returns c = search target depth 14 fits 6000

@@ -2,8 +2,8 @@
 use Rattle.targets.proofs.Lookups.{spawned-none, spawned-there}
 use Rattle.targets.proofs.spawned_by.Goals as goal
 
-pub returns-in-Nowhere : goal.returns-in-Nowhere
-returns-in-Nowhere c = search spawned-none
+pub returns-in_err-at : goal.returns-in_err-at
+returns-in_err-at c = rw c.from_residual.ensures (search (spawned-none, c.in_err-at.was))
 
-pub returns-in-At : goal.returns-in-At
-returns-in-At c = search spawned-there
+pub returns : goal.returns
+returns c = search (spawned-there, c.in_ok-at.was)

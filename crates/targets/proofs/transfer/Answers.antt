@@ -1,29 +1,28 @@
 -- `targets::transfer` meets its contract.
-use native.Mathlib.Omega.{arith}
 use Rattle.code.specs.Code.{transfer_of}
-use Rattle.targets.proofs.Judged.{by_kind, by_last}
+use Rattle.targets.proofs.Judged.{by_kind}
 use Rattle.targets.proofs.transfer.Goals as goal
 
-pub returns-in_default : goal.returns-in_default
-returns-in_default c =
-    by_last _ _ _ _ c.join.result c.byte.ensures c.after-next.ensures (omega arith) c.join.ensures
-
-pub returns-in-0 : goal.returns-in-0
+pub returns-in-Goto : goal.returns-in-Goto
 unfolding transfer_of
-returns-in-0 c = search by_kind
+returns-in-Goto c = search by_kind
 
-pub returns-in-1 : goal.returns-in-1
+pub returns-in-If : goal.returns-in-If
 unfolding transfer_of
-returns-in-1 c = search by_kind
+returns-in-If c = search by_kind
 
-pub returns-in-2 : goal.returns-in-2
+pub returns-in-Call : goal.returns-in-Call
 unfolding transfer_of
-returns-in-2 c = search by_kind
+returns-in-Call c = search by_kind
 
-pub returns-in-3 : goal.returns-in-3
+pub returns-in-Return : goal.returns-in-Return
 unfolding transfer_of
-returns-in-3 c = search by_kind
+returns-in-Return c = search by_kind
 
-pub returns-in-4 : goal.returns-in-4
+pub returns-in-Spork : goal.returns-in-Spork
 unfolding transfer_of
-returns-in-4 c = search by_kind
+returns-in-Spork c = search by_kind
+
+pub returns-in-Spoin : goal.returns-in-Spoin
+unfolding transfer_of
+returns-in-Spoin c = search by_kind

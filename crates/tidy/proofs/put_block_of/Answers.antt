@@ -2,8 +2,8 @@
 use Rattle.tidy.proofs.Placed.{block-nowhere, block-at}
 use Rattle.tidy.proofs.put_block_of.Goals as goal
 
-pub returns-in-Nowhere : goal.returns-in-Nowhere
-returns-in-Nowhere c = search block-nowhere
+pub returns-in-None : goal.returns-in-None
+returns-in-None c = search block-nowhere
 
-pub returns-in-At : goal.returns-in-At
-returns-in-At c = search block-at
+pub returns-in-Some : goal.returns-in-Some
+returns-in-Some c = search block-at

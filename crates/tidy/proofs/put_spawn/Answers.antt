@@ -2,8 +2,8 @@
 use Rattle.tidy.proofs.Placed.{spawn-nowhere, spawn-at}
 use Rattle.tidy.proofs.put_spawn.Goals as goal
 
-pub returns-in-Nowhere : goal.returns-in-Nowhere
-returns-in-Nowhere c = search spawn-nowhere
+pub returns-in-None : goal.returns-in-None
+returns-in-None c = search spawn-nowhere
 
-pub returns-in-At : goal.returns-in-At
-returns-in-At c = search spawn-at
+pub returns-in-Some : goal.returns-in-Some
+returns-in-Some c = search spawn-at

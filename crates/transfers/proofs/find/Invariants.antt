@@ -1,11 +1,11 @@
 -- `transfers::find` meets its contract.
-use Prim.Native.Nat.{◌-◌}
-use Rattle.transfers.specs.Transfers.{len}
+use Prim.Native.Nat.{◌+◌, ◌*◌}
 use Rattle.transfers.proofs.Filling.{Filling}
+use Rattle.places.specs.Layout as Layout
 use Rattle.transfers.proofs.find.Given as goal
 
-abbrev pub invariant-loop-i : goal.invariant-loop-i
-invariant-loop-i l = Filling l.s l.places l.initial.transfers l.transfers l.i
+abbrev pub invariant-loop-f : goal.invariant-loop-f
+invariant-loop-f l = Filling l.s l.places l.fn.transfers l.transfers (Layout.blocks * l.f)
 
-abbrev pub decreases-loop-i : goal.decreases-loop-i
-decreases-loop-i l = len - l.i
+abbrev pub invariant-loop-b : goal.invariant-loop-b
+invariant-loop-b l = Filling l.s l.places l.fn.transfers l.transfers (Layout.blocks * l.f + l.b)

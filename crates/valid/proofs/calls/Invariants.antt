@@ -1,8 +1,8 @@
 -- `valid::calls`: the words before i are spawn calls.
-use Prim.Native.Nat.{ℕ, ◌-◌}
+use Prim.Native.Nat.{ℕ}
 use mathlib.Core.Path.{◌≡◌}
 use mathlib.Core.List.{List}
-use lib.ListN.{length, drop}
+use lib.ListN.{drop}
 use Rattle.model.specs.Lists.{all}
 use Rattle.model.specs.Syntax.{Program}
 use Rattle.places.specs.Places.{Places}
@@ -11,6 +11,3 @@ use Rattle.valid.proofs.calls.Given as goal
 
 abbrev pub invariant-loop-i : goal.invariant-loop-i
 invariant-loop-i l = (s : List ℕ) (P : Program) → Places s P l.places → all (is_call P l.f) l.ws ≡ all (is_call P l.f) (drop l.i l.ws)
-
-abbrev pub decreases-loop-i : goal.decreases-loop-i
-decreases-loop-i l = length l.ws - l.i

@@ -1,31 +1,17 @@
 -- `valid::frames`: the frames from `left` on are right, and have `sum` promoted calls.
-use mathlib.Core.Path.{refl}
 use native.Mathlib.Omega.{arith}
-use lib.ListN.{length-take, length-drop}
 use Rattle.valid.proofs.Turns.{frame-bad, follow-bad, frame-fine, one_more, frames-end}
 use mathlib.Core.Bool.{not}
 use mathlib.Core.Path.{ap}
 use Rattle.valid.proofs.frames.Goals as goal
 
-pub loop-left-init : goal.loop-left-init
-loop-left-init c = (omega arith, omega arith, omega arith, λ P h. refl)
-
-pub frame-requires : goal.frame-requires
-frame-requires c = simp (length-take, length-drop) (omega arith)
-
 pub returns-then-not-frame : goal.returns-then-not-frame
 returns-then-not-frame c =
     (tt, λ P h. frame-bad P _ _ _ _ _ (omega arith) (c.loop-left.invariant.3 P h) _ (c.frame.ensures P h) (ap not c.if-not-frame.true))
 
-pub follow-requires : goal.follow-requires
-follow-requires c = simp (length-take, length-drop) (omega arith)
-
 pub returns-then-not-follow : goal.returns-then-not-follow
 returns-then-not-follow c =
     (tt, λ P h. follow-bad P _ _ _ _ _ (omega arith) (c.loop-left.invariant.3 P h) _ c.follow.ensures (ap not c.if-not-follow.true))
-
-pub number-promoted-requires : goal.number-promoted-requires
-number-promoted-requires c = simp (length-take, length-drop) (omega arith)
 
 pub loop-left-preserved : goal.loop-left-preserved
 loop-left-preserved c = (

@@ -14,6 +14,3 @@ invariant-loop-left l = (l.left ≤ l.n) ×
     (promotions (lasts frame_words l.n l.ws) ≡ l.sum + promotions (lasts frame_words l.left l.ws)) ×
     ((P : Program) → Places l.s P l.places
     → fine P true true (lasts frame_words l.n l.ws) ≡ fine P l.newest l.free (lasts frame_words l.left l.ws))
-
-abbrev pub decreases-loop-left : goal.decreases-loop-left
-decreases-loop-left l = l.left

@@ -2,8 +2,8 @@
 use Rattle.valid.proofs.Lookups.{block-there, block-gone}
 use Rattle.valid.proofs.place.Goals as goal
 
-pub returns-in-At : goal.returns-in-At
-returns-in-At c = search (block-there)
+pub returns-in-Some : goal.returns-in-Some
+returns-in-Some c = search (block-there)
 
-pub returns-in-Nowhere : goal.returns-in-Nowhere
-returns-in-Nowhere c = search (block-gone)
+pub returns-in-None : goal.returns-in-None
+returns-in-None c = search (block-gone)

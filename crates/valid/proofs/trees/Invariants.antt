@@ -1,5 +1,5 @@
 -- `valid::trees`: the threads before i are right, and `demands` trees are still to come.
-use Prim.Native.Nat.{◌+◌, ◌*◌, ◌-◌, ◌≤◌}
+use Prim.Native.Nat.{◌+◌, ◌*◌, ◌≤◌}
 use mathlib.Core.Path.{◌≡◌}
 use Rattle.model.specs.Syntax.{Program}
 use Rattle.model.specs.Pool.{most_frames, thread_words, runs}
@@ -12,6 +12,3 @@ abbrev pub invariant-loop-i : goal.invariant-loop-i
 invariant-loop-i l = (l.i ≤ l.n) ×
     (l.demands ≤ 1 + l.i * (most_frames * beyond)) ×
     ((P : Program) → Places l.s P l.places → forest P 1 (runs thread_words l.n l.ws) ≡ from P l.ws l.n l.i l.demands)
-
-abbrev pub decreases-loop-i : goal.decreases-loop-i
-decreases-loop-i l = l.n - l.i

@@ -1,5 +1,5 @@
 -- `valid::values`: the values before i are right, or not fine.
-use Prim.Native.Nat.{◌-◌, ◌≤◌}
+use Prim.Native.Nat.{◌≤◌}
 use mathlib.Core.Path.{◌≡◌}
 use mathlib.Core.Bool.{◌&&◌}
 use lib.ListN.{drop}
@@ -8,6 +8,3 @@ use Rattle.valid.proofs.values.Given as goal
 
 abbrev pub invariant-loop-i : goal.invariant-loop-i
 invariant-loop-i l = (l.i ≤ temporaries) × (blank l.bound 0 l.ws ≡ (l.fine && blank l.bound l.i (drop l.i l.ws)))
-
-abbrev pub decreases-loop-i : goal.decreases-loop-i
-decreases-loop-i l = temporaries - l.i

@@ -2,11 +2,11 @@
 use Rattle.verifier.proofs.Ranks.{judge-unknown, judge-on, judge-main}
 use Rattle.verifier.proofs.judge.Goals as goal
 
-pub returns-in-Unknown : goal.returns-in-Unknown
-returns-in-Unknown c = search judge-unknown
+pub returns-in_default : goal.returns-in_default
+returns-in_default c = search judge-unknown
 
-pub returns-then-n-eq0 : goal.returns-then-n-eq0
-returns-then-n-eq0 c = search judge-on
+pub returns-then-n-ne0 : goal.returns-then-n-ne0
+returns-then-n-ne0 c = search judge-main
 
-pub returns-else-n-eq0 : goal.returns-else-n-eq0
-returns-else-n-eq0 c = search judge-main
+pub returns : goal.returns
+returns c = search judge-on

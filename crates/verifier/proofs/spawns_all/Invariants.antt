@@ -1,10 +1,6 @@
 -- `verifier::spawns_all` meets its contract.
-use Prim.Native.Nat.{◌-◌}
 use Rattle.verifier.proofs.Ranks.{SpawnsLeft}
 use Rattle.verifier.proofs.spawns_all.Given as goal
 
 abbrev pub invariant-loop-k : goal.invariant-loop-k
 invariant-loop-k l = SpawnsLeft l.s l.places l.f l.k
-
-abbrev pub decreases-loop-k : goal.decreases-loop-k
-decreases-loop-k l = 8 - l.k

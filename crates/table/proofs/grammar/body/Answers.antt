@@ -1,21 +1,13 @@
 -- `table::grammar::body`: statements, a transfer.
 use borrow.Author.Rules.{rules}
 use Rattle.table.specs.Skips.{body}
-use Rattle.table.proofs.Laws.{skips}
+use Rattle.table.proofs.Laws.{skip-else, skips}
 use Rattle.table.proofs.grammar.body.Goals as goal
 
-pub enum_known-m : goal.enum_known-m
+pub returns-in_err-m : goal.returns-in_err-m
 unfolding body
-enum_known-m c = search rules
+returns-in_err-m c = skip-else _ _ _ _ _ _ c.in_err-m.ensures (search rules)
 
-pub enum_known-p : goal.enum_known-p
+pub returns : goal.returns
 unfolding body
-enum_known-p c = search rules
-
-pub returns-in-At : goal.returns-in-At
-unfolding body
-returns-in-At c = search skips
-
-pub returns-in-Bad : goal.returns-in-Bad
-unfolding body
-returns-in-Bad c = search skips
+returns c = search (rules, skips, c.in_ok-m.ensures)

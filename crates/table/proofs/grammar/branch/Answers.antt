@@ -1,9 +1,10 @@
 -- `table::grammar::branch`: an expression, then two names.
-use Rattle.table.proofs.Rules.{transfers}
+use borrow.Author.Rules.{rules}
+use Rattle.table.proofs.Rules.{if-then, if-else}
 use Rattle.table.proofs.grammar.branch.Goals as goal
 
-pub returns-in-At : goal.returns-in-At
-returns-in-At c = search transfers
+pub returns-in_err-k : goal.returns-in_err-k
+returns-in_err-k c = if-else _ _ _ _ c.in_err-k.ensures (search rules)
 
-pub returns-in-Bad : goal.returns-in-Bad
-returns-in-Bad c = search transfers
+pub returns : goal.returns
+returns c = if-then _ _ _ _ c.in_ok-k.ensures c.pass.ensures

@@ -1,37 +1,23 @@
 -- `table::grammar::expression`: a kind, then an atom, and another where it has two operands.
 use borrow.Author.Rules.{rules}
 use Rattle.model.specs.Read as Read
-use Rattle.table.proofs.Rules.{kinds-of}
+use Rattle.table.proofs.Laws.{byte-then}
+use Rattle.table.proofs.Rules.{first-bad, kinds-of}
 use Rattle.table.proofs.grammar.expression.Goals as goal
 
-pub enum_known-kind : goal.enum_known-kind
+pub returns-in_err-kind : goal.returns-in_err-kind
 unfolding Read.expression
-enum_known-kind c = search rules
+returns-in_err-kind c = search (rules, kinds-of, c.in_err-kind.ensures)
 
-pub enum_known-next : goal.enum_known-next
+pub returns-in_err-next : goal.returns-in_err-next
 unfolding Read.expression
-enum_known-next c = search rules
-
-pub enum_known-p : goal.enum_known-p
-unfolding Read.expression
-enum_known-p c = search rules
-
-pub returns-in-Bad : goal.returns-in-Bad
-unfolding Read.expression
-returns-in-Bad c = search kinds-of
-
-pub enum_known-p-in-Wrong-1 : goal.enum_known-p-in-Wrong-1
-unfolding Read.expression
-enum_known-p-in-Wrong-1 c = search rules
+returns-in_err-next c =
+    byte-then _ _ _ _ _ _ c.in_ok-kind.ensures (first-bad _ _ _ _ c.in_ok-kind.ensures _ _ c.in_err-next.ensures (search rules))
 
 pub returns-then-operands-eq2 : goal.returns-then-operands-eq2
 unfolding Read.expression
-returns-then-operands-eq2 c = search kinds-of
+returns-then-operands-eq2 c = search (rules, kinds-of, c.in_ok-kind.ensures, c.in_ok-next.ensures)
 
 pub returns-else-operands-eq2 : goal.returns-else-operands-eq2
 unfolding Read.expression
-returns-else-operands-eq2 c = search kinds-of
-
-pub returns-in-Wrong : goal.returns-in-Wrong
-unfolding Read.expression
-returns-in-Wrong c = search kinds-of
+returns-else-operands-eq2 c = search (rules, kinds-of, c.in_ok-kind.ensures, c.in_ok-next.ensures)

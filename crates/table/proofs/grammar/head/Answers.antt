@@ -1,33 +1,19 @@
 -- `table::grammar::head`: parameters, scope, nesting.
 use borrow.Author.Rules.{rules}
 use Rattle.model.specs.Read as Read
-use Rattle.table.proofs.Rules.{kinds-of}
+use Rattle.table.proofs.Laws.{skip-then, skip-else}
+use Rattle.table.proofs.Rules.{half-else, kinds-of}
 use Rattle.table.proofs.grammar.head.Goals as goal
 
-pub enum_known-k : goal.enum_known-k
+pub returns-in_err-scope : goal.returns-in_err-scope
 unfolding Read.head Read.arguments Read.temporary Read.name
-enum_known-k c = search rules
+returns-in_err-scope c = skip-else _ _ _ _ _ _ c.in_err-scope.ensures (search rules)
 
-pub enum_known-p : goal.enum_known-p
+pub returns-in_err-k : goal.returns-in_err-k
 unfolding Read.head Read.arguments Read.temporary Read.name
-enum_known-p c = search rules
-
-pub returns-in-Bad : goal.returns-in-Bad
-unfolding Read.head Read.arguments Read.temporary Read.name
-returns-in-Bad c = search kinds-of depth 9
-
-pub enum_known-k-in-At-pass : goal.enum_known-k-in-At-pass
-unfolding Read.head Read.arguments Read.temporary Read.name
-enum_known-k-in-At-pass c = search rules
-
-pub enum_known-p-in-Bad-pass : goal.enum_known-p-in-Bad-pass
-unfolding Read.head Read.arguments Read.temporary Read.name
-enum_known-p-in-Bad-pass c = search rules
-
-pub returns-in-Bad-pass : goal.returns-in-Bad-pass
-unfolding Read.head Read.arguments Read.temporary Read.name
-returns-in-Bad-pass c = search kinds-of depth 9
+returns-in_err-k c =
+    skip-then _ _ _ _ _ _ c.in_ok-scope.ensures (λ _. half-else _ _ _ _ _ _ c.in_err-k.ensures (search rules))
 
 pub returns : goal.returns
 unfolding Read.head Read.arguments Read.temporary Read.name
-returns c = search kinds-of depth 9
+returns c = search (rules, kinds-of, c.in_ok-scope.ensures, c.in_ok-k.ensures) depth 9

@@ -1,9 +1,7 @@
 -- `table::grammar::head_of`: by the version.
-use Rattle.table.proofs.Rules.{bare-skip, full-skip}
+use borrow.Author.Rules.{rules}
+use Rattle.table.proofs.Rules.{bare-skip}
 use Rattle.table.proofs.grammar.head_of.Goals as goal
 
-pub returns-then-brief : goal.returns-then-brief
-returns-then-brief c = search bare-skip
-
-pub returns-else-brief : goal.returns-else-brief
-returns-else-brief c = search full-skip
+pub returns-in-Two : goal.returns-in-Two
+returns-in-Two c = search (rules, bare-skip)

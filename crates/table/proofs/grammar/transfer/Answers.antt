@@ -1,21 +1,16 @@
 -- `table::grammar::transfer`: a kind, then what follows it.
 use borrow.Author.Rules.{rules}
 use Rattle.model.specs.Read as Read
-use Rattle.table.proofs.Laws.{skips}
+use Rattle.table.proofs.Laws.{byte-then, skips}
+use Rattle.table.proofs.Rules.{kind-found}
 use Rattle.table.proofs.grammar.transfer.Goals as goal
 
-pub enum_known-kind : goal.enum_known-kind
+pub returns-in_err-k : goal.returns-in_err-k
 unfolding Read.transfer
-enum_known-kind c = search rules
+returns-in_err-k c = search (rules, skips, c.in_err-k.ensures)
 
-pub enum_known-p : goal.enum_known-p
+pub returns : goal.returns
 unfolding Read.transfer
-enum_known-p c = search rules
-
-pub returns-in-Byte : goal.returns-in-Byte
-unfolding Read.transfer
-returns-in-Byte c = search skips
-
-pub returns-in-Wrong : goal.returns-in-Wrong
-unfolding Read.transfer
-returns-in-Wrong c = search skips
+returns c =
+    let e = kind-found _ _ _ _ _ c.in_ok-k.ensures c.kind_at.ensures in
+    byte-then _ _ _ _ _ _ c.in_ok-k.ensures (rw (← e) c.transfer_of.ensures)

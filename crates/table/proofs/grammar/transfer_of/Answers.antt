@@ -1,34 +1,23 @@
 -- `table::grammar::transfer_of`: by the kind.
-use Prim.Native.Nat.{◌<◌}
-use native.Mathlib.Omega.{arith}
-use Rattle.model.specs.Read as Read
-use Rattle.table.proofs.Rules.{transfers, other-skip}
+use mathlib.Core.Logic.{inl, inr}
+use Rattle.table.proofs.Rules.{goto-skip, if-skip, call-skip, return-skip, spork-skip, spoin-skip}
 use Rattle.table.proofs.grammar.transfer_of.Goals as goal
 
-pub returns-in_default : goal.returns-in_default
-unfolding Read.temporary
-returns-in_default c = let h : 5 < c.args.kind = omega arith in other-skip _ _ _ h
+pub returns-in-Goto : goal.returns-in-Goto
+returns-in-Goto c = rw c.in-Goto.is (goto-skip _ _ _ c.spawn_call.ensures)
 
-pub returns-in-0 : goal.returns-in-0
-unfolding Read.temporary
-returns-in-0 c = search transfers
+pub returns-in-If : goal.returns-in-If
+returns-in-If c = rw c.in-If.is (if-skip _ _ _ c.branch-s.ensures)
 
-pub returns-in-1 : goal.returns-in-1
-unfolding Read.temporary
-returns-in-1 c = search transfers
+pub returns-in-Call : goal.returns-in-Call
+returns-in-Call c = rw c.in-Call.is (call-skip _ _ _ c.call.ensures)
 
-pub returns-in-2 : goal.returns-in-2
-unfolding Read.temporary
-returns-in-2 c = search transfers
+pub returns-in-Return : goal.returns-in-Return
+returns-in-Return c = rw c.in-Return.is (return-skip _ _ _ c.counted.ensures)
 
-pub returns-in-3 : goal.returns-in-3
-unfolding Read.temporary
-returns-in-3 c = search transfers
-
-pub returns-in-4 : goal.returns-in-4
-unfolding Read.temporary
-returns-in-4 c = search transfers
-
-pub returns-in-5 : goal.returns-in-5
-unfolding Read.temporary
-returns-in-5 c = search transfers
+pub returns-in-Spork : goal.returns-in-Spork
+returns-in-Spork c =
+    elim c.in-Spork.is [
+      | inl e ↦ rw e (spork-skip _ _ _ c.pass.ensures)
+      | inr e ↦ rw e (spoin-skip _ _ _ c.pass.ensures)
+    ]

@@ -1,47 +1,22 @@
 -- `table::walk::functions`: the loop keeps the places of each function as it passes over them one by one.
-use mathlib.Core.Path.{refl}
 use borrow.Author.Rules.{rules}
 use Rattle.table.specs.Marks.{Kept}
-use Rattle.table.proofs.Marks.{walks, marks-go, kept_at}
+use Rattle.table.proofs.Laws.{many-stops}
+use Rattle.table.proofs.Marks.{walks, marks-go, kept-bad}
 use Rattle.table.proofs.walk.functions.Goals as goal
 
-pub loop-left-init : goal.loop-left-init
-unfolding Kept
-loop-left-init c = (refl, refl, search rules)
-
-pub returns-in-Bad : goal.returns-in-Bad
-unfolding Kept
-returns-in-Bad c = (search walks, tt)
-
-pub loop-left-preserved : goal.loop-left-preserved
-unfolding Kept
-loop-left-preserved c = (
-  search walks,
-  marks-go _ _ _ _ _ _ _ _ _ _ _ _ c.loop-left.invariant.1 (search walks) (search rules)
-      (kept_at _ _ _ _ c.function.ensures.1 c.in-At.is),
-  search walks,
+pub returns-in_err-k : goal.returns-in_err-k
+returns-in_err-k c = (
+  many-stops _ _ _ _ _ _ _ _ _ c.loop-f.invariant.0 c.in_err-k.ensures.0 (search rules) c.loop-f-test.true,
+  kept-bad _ _ _ (search rules),
 )
+
+pub loop-f-preserved : goal.loop-f-preserved
+unfolding Kept
+loop-f-preserved c =
+    let (passed, kept) = c.in_ok-k.ensures in
+    (search walks, marks-go _ _ _ _ _ _ _ _ _ _ _ _ c.loop-f.invariant.1 passed c.loop-f-test.true kept)
 
 pub returns : goal.returns
 unfolding Kept
 returns c = (search walks, search walks)
-
-pub enum_known-next : goal.enum_known-next
-unfolding Kept
-enum_known-next c = search rules
-
-pub enum_known-p : goal.enum_known-p
-unfolding Kept
-enum_known-p c = search rules
-
-pub overflow_add-f : goal.overflow_add-f
-unfolding Kept
-overflow_add-f c = search rules
-
-pub overflow_sub-left : goal.overflow_sub-left
-unfolding Kept
-overflow_sub-left c = search rules
-
-pub loop-left-smaller : goal.loop-left-smaller
-unfolding Kept
-loop-left-smaller c = search rules

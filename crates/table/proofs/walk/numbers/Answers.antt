@@ -1,56 +1,35 @@
+-- `table::walk::numbers`: byte by byte.
+use mathlib.Core.Path.{refl}
 use borrow.Author.Rules.{rules}
-use Rattle.table.specs.Marks.{sizes}
-use Rattle.table.proofs.Marks.{numbered}
+use Rattle.table.specs.Marks.{sizes, sizes_of}
+use Rattle.table.proofs.Marks.{whole-then, lacks-else}
 use Rattle.table.proofs.walk.numbers.Goals as goal
 
-pub enum_known-k : goal.enum_known-k
+pub returns-in_err-returned : goal.returns-in_err-returned
 unfolding sizes
-enum_known-k c = search rules
+returns-in_err-returned c = lacks-else _ _ _ _ c.in_err-returned.ensures (search rules)
 
-pub enum_known-p : goal.enum_known-p
+pub returns-in_err-block : goal.returns-in_err-block
 unfolding sizes
-enum_known-p c = search rules
+returns-in_err-block c =
+    whole-then _ _ _ _ _ _ c.in_ok-returned.ensures (lacks-else _ _ _ _ c.in_err-block.ensures (search rules))
 
-pub returns-in-Wrong : goal.returns-in-Wrong
+pub returns-in_err-blocks : goal.returns-in_err-blocks
 unfolding sizes
-returns-in-Wrong c = search numbered
+returns-in_err-blocks c =
+    whole-then _ _ _ _ _ _ c.in_ok-returned.ensures
+    (whole-then _ _ _ _ _ _ c.in_ok-block.ensures (lacks-else _ _ _ _ c.in_err-blocks.ensures (search rules)))
 
-pub enum_known-k-in-Byte-byte-2 : goal.enum_known-k-in-Byte-byte-2
+pub returns-in_err-spawns : goal.returns-in_err-spawns
 unfolding sizes
-enum_known-k-in-Byte-byte-2 c = search rules
+returns-in_err-spawns c =
+    whole-then _ _ _ _ _ _ c.in_ok-returned.ensures
+    (whole-then _ _ _ _ _ _ c.in_ok-block.ensures
+    (whole-then _ _ _ _ _ _ c.in_ok-blocks.ensures (lacks-else _ _ _ _ c.in_err-spawns.ensures (search rules))))
 
-pub enum_known-p-in-Wrong-byte-2 : goal.enum_known-p-in-Wrong-byte-2
-unfolding sizes
-enum_known-p-in-Wrong-byte-2 c = search rules
-
-pub returns-in-Wrong-byte : goal.returns-in-Wrong-byte
-unfolding sizes
-returns-in-Wrong-byte c = search numbered
-
-pub enum_known-b : goal.enum_known-b
-unfolding sizes
-enum_known-b c = search rules
-
-pub enum_known-c : goal.enum_known-c
-unfolding sizes
-enum_known-c c = search rules
-
-pub enum_known-p-in-Wrong-byte-4 : goal.enum_known-p-in-Wrong-byte-4
-unfolding sizes
-enum_known-p-in-Wrong-byte-4 c = search rules
-
-pub enum_known-p-in-Wrong-byte-3 : goal.enum_known-p-in-Wrong-byte-3
-unfolding sizes
-enum_known-p-in-Wrong-byte-3 c = search rules
-
-pub returns-in-Byte-byte-3 : goal.returns-in-Byte-byte-3
-unfolding sizes
-returns-in-Byte-byte-3 c = search numbered
-
-pub returns-in-Wrong-byte-3 : goal.returns-in-Wrong-byte-3
-unfolding sizes
-returns-in-Wrong-byte-3 c = search numbered
-
-pub returns-in-Wrong-byte-2 : goal.returns-in-Wrong-byte-2
-unfolding sizes
-returns-in-Wrong-byte-2 c = search numbered
+pub returns : goal.returns
+unfolding sizes sizes_of
+returns c =
+    whole-then _ _ _ _ _ _ c.in_ok-returned.ensures
+    (whole-then _ _ _ _ _ _ c.in_ok-block.ensures
+    (whole-then _ _ _ _ _ _ c.in_ok-blocks.ensures (whole-then _ _ _ _ _ _ c.in_ok-spawns.ensures refl)))

@@ -1,9 +1,0 @@
--- `kept::mention` meets its contract.
-use Rattle.kept.proofs.Arrays.{stays, comes}
-use Rattle.kept.proofs.mention.Goals as goal
-
-pub returns-then-number : goal.returns-then-number
-returns-then-number c = search stays
-
-pub returns : goal.returns
-returns c = search comes

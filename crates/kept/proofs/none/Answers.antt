@@ -1,8 +1,0 @@
--- `kept::none` meets its contract.
-use mathlib.Core.Path.{refl}
-use Rattle.kept.specs.Kept.{nothing}
-use Rattle.kept.proofs.none.Goals as goal
-
-pub returns : goal.returns
-unfolding nothing
-returns c = refl

@@ -1,7 +1,0 @@
--- `mezdaulk_check` meets its contract.
-use mathlib.Core.Path.{ap, ◌∙◌}
-use Rattle.host.specs.Exports as Exports
-use Rattle.mezdaulk.proofs.mezdaulk_check.Goals as goal
-
-pub returns : goal.returns
-returns c = c.done.ensures ∙ ap Exports.done c.check.ensures

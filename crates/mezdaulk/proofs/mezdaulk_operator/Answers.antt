@@ -1,6 +1,0 @@
--- `mezdaulk_operator` meets its contract.
-use Rattle.mezdaulk.proofs.Codes.{wrote}
-use Rattle.mezdaulk.proofs.mezdaulk_operator.Goals as goal
-
-pub returns : goal.returns
-returns c = search wrote
