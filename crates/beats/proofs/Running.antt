@@ -160,14 +160,19 @@ module _ {s places : List ℕ} {N C : ℕ} {ws : List ℤ} {is : List ℕ} where
             refused-report n m y.0 why ws'' x.0 y.2 (y.3 ∙ x.1.words)
             ∙ sym (ap reported (x.2 ∙ ap (more_by n m) (runs-refused N C P x.0 i (drop (n + 1) is) y.1)))
 
-  pub going-ends : {n m : ℕ} {ws' : List ℤ} → Going s places N C ws is n m ws' (drop n is) → length is ≡ n
-      → Runs s places ws N C is (record { steps = length is; promotions = m; answer = Ok tt }) ws'
+  pub going-ends : {n m : ℕ} {ws' : List ℤ} → Going s places N C ws is n m ws' (drop n is) → length is ≤ n
+      → Runs s places ws N C is (record { steps = n; promotions = m; answer = Ok tt }) ws'
   going-ends {n} {m} {ws'} g l = record { reports = λ P p q h. one P p (g.at P p q h) }
     where
       one : (P : Program) (p : Pool) → GoesOn N C P p is n m ws' (drop n is)
-          → told_of (record { steps = length is; promotions = m; answer = Ok tt }) ws' ≡ reported (runs N C P p is)
+          → told_of (record { steps = n; promotions = m; answer = Ok tt }) ws' ≡ reported (runs N C P p is)
       one P p x =
-          ap (λ (k : ℕ). told_of (record { steps = k; promotions = m; answer = Ok tt }) ws') l
-          ∙ all-report n m ws' N C P x.pool x.holds.words
-          ∙ sym (ap reported
-          (x.left ∙ ap (λ (js : List ℕ). more_by n m (runs N C P x.pool js)) (drop-none is n (past-at is n (omega arith)))))
+          all-report n m ws' N C P x.pool x.holds.words
+          ∙ sym (ap reported (x.left ∙ ap (λ (js : List ℕ). more_by n m (runs N C P x.pool js)) (drop-none is n (past-at is n l))))
+
+  -- the same of a run that is as long as the list
+  pub going-through : {n m : ℕ} {ws' : List ℤ} → Going s places N C ws is n m ws' (drop n is) → length is ≡ n
+      → Runs s places ws N C is (record { steps = length is; promotions = m; answer = Ok tt }) ws'
+  going-through {n} {m} {ws'} g l =
+      subst (λ (k : ℕ). Runs s places ws N C is (record { steps = k; promotions = m; answer = Ok tt }) ws') (sym l)
+      (going-ends g (omega arith))

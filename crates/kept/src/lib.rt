@@ -1,11 +1,12 @@
 // What a tidy table keeps: the blocks, spawn calls and functions, as lists of old numbers in their new order.
 #![tactic(auto)]
 
-ghost use Rattle.std.specs.Prelude.{◌≡◌, [], ◌∷◌};
+ghost use Rattle.std.specs.Prelude.{◌≡◌, [], ◌∷◌, ◌+◌};
+ghost use Rattle.code.specs.Bytes.{byte_at};
 ghost use Rattle.code.specs.Code.{run, transfer_at};
 ghost use Rattle.model.specs.Syntax.{targets, sporked_by};
 ghost use Rattle.numbering.specs.Tidy.{mentioned_in};
-ghost use Rattle.kept.specs.Kept.{nothing, number_in, Adds, Placed, Ended, Known, AddsIn, spawns_by, functions_by, spawned_of};
+ghost use Rattle.kept.specs.Kept.{most, nothing, number_in, Adds, Placed, Ended, Known, AddsIn, spawns_by, functions_by, spawned_of};
 ghost use Rattle.kept.specs.Kept.{spawned_from, called_from, by_transfer, called_in, KeepsBlocks, KeepsSpawns, KeepsFunctions};
 
 use code::Kind;
@@ -23,6 +24,9 @@ pub struct Kept {
 
 impl Kept {
     pub const MOST: usize = 32;
+
+    // Where the new numbers begin, where a list is lent as bytes: its order, and behind it the new numbers.
+    pub const NUMBERS_FROM: usize = Kept::MOST;
 
     pub const ABSENT: u8 = 255;
 
@@ -55,6 +59,13 @@ impl Kept {
         words::put(&mut self.numbers, x as usize, self.count);
         self.count = self.count.saturating_add(1);
     }
+}
+
+// The new number of x in a list that is lent as bytes, of any length.
+pub fn number(list: &[u8], x: u8) -> u8
+    ensures { result ≡ byte_at list.now (most + x) }
+{
+    code::byte(list, Kept::NUMBERS_FROM + x as usize)
 }
 
 // The two names at an offset.

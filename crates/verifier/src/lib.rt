@@ -16,7 +16,7 @@ use places::{Layout, Places};
 use targets::Here;
 
 // The block of a fault that stands in none, which is main's and a spawn call's.
-const NOWHERE: usize = 255;
+pub const NOWHERE: usize = 255;
 
 // A nesting's entry: the spawn call is there, and its arguments lie in the scope.
 fn nests(s: &[u8], places: &Places, f: usize, x: u8, scope: u16) -> Result<(), No>

@@ -1,7 +1,7 @@
 -- `beats::beats` meets its contract.
 use native.Mathlib.Omega.{arith}
 use borrow.Author.Rules.{rules}
-use Rattle.beats.proofs.Running.{going_start, going-made, going-refused, going-ends}
+use Rattle.beats.proofs.Running.{going_start, going-made, going-refused, going-through}
 use Rattle.beats.proofs.beats.Goals as goal
 
 pub loop-steps-init : goal.loop-steps-init
@@ -19,4 +19,4 @@ loop-steps-preserved c = (
 )
 
 pub returns : goal.returns
-returns c = going-ends c.loop-steps.invariant.1 (search rules)
+returns c = going-through c.loop-steps.invariant.1 (search rules)
