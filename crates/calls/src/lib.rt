@@ -17,8 +17,8 @@ pub struct Main {
     pub values: [i32; 4],
 }
 
-// A pool at the start: any table that reads, and words that hold anything. What a start is is unfolded for the search, so that it
-// judges an answer that the proof does not name, as that of the edit `refused_start_given`.
+// A pool at the start: any table that reads, and words that hold anything. The search may unfold the definition, so that it
+// judges answers that the proof does not name, as that of the edit `refused_start_given`.
 #[tactic(auto, unfolding(model::specs::Calls::start, model::specs::Calls::starting))]
 pub fn start(table: &[u8], pool: &mut [i32]) -> Result<(), Refusal>
     ensures { called (answer_of result) pool.new ≡ Calls.start table.now pool.old }
